@@ -121,7 +121,7 @@ def check_refused(count: ran.Count, program: str) -> None:
     got = said([program], given.encode())
     count.same("what there isn't changes nothing", (got[0], got[1].decode().splitlines()), (0, wanted))
     with open(f"{SUPPORT}/bad_use.c", encoding="ascii") as it:
-        count.check("options of another size are refused by bad_use.c", "bm_judge_new" in it.read())
+        count.check("options of another size are refused by bad_use.c", "bm_judge_open" in it.read())
 
 
 # Memory
@@ -165,7 +165,7 @@ def main(words: list[str]) -> None:
         count.end()
     with tempfile.TemporaryDirectory(prefix="c-judge-") as room:
         check_header(count, room)
-        if not is_whole(library) or "bm_judge_new" not in ran.text_of(f"{library}/bullmyrtle.h"):
+        if not is_whole(library) or "bm_judge_open" not in ran.text_of(f"{library}/bullmyrtle.h"):
             print(f"SKIPPED: all but the header, since the library in {library} has no judge", flush=True)
             count.end()
         for way in ("shared", "static"):

@@ -111,7 +111,7 @@ def main(words: list[str]) -> None:
     library = os.path.abspath(options.library)
     if ran.lacks("cc", "it compiles the program"):
         count.end()
-    if not is_whole(library) or "bm_judge_new" not in ran.text_of(f"{library}/bullmyrtle.h"):
+    if not is_whole(library) or "bm_judge_open" not in ran.text_of(f"{library}/bullmyrtle.h"):
         print(f"SKIPPED: what judging takes, since the library in {library} has no judge", flush=True)
         count.end()
     with tempfile.TemporaryDirectory(prefix="judge-costs-") as room:

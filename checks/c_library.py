@@ -3,9 +3,10 @@
 The C library in a folder; where none is named, in out/library, as bin/build-library builds it, or else the released one. Where there is none,
 the header alone is tried. Its header, its exports and its map have the same calls, with the same parameters, and the structs lie as C, ctypes
 and the exports lay them out. The header compiles without a warning, as C99 and as C++. The programs of examples/c are built and run, with the
-shared library and with the static one, and so is a player of scripts, which gives what the model of docs/connection.md does for its rows,
-call by call and several in one, and for random sessions, several in one. What was in the first header stays as it was, and the texts of codes and ends are those of
-docs/embedding.md. (What is refused, threads and memory are tried by c_library_use.py and c_library_memory.py.)"""
+shared library and with the static one, and so is a player of scripts, which gives what the model of docs/connection.md does for its rows and
+for random sessions, call by call and with several things said in one call, and finds what it is lent unchanged as long as it may be read. What hosts
+of this interface rely on stays as it is, and the texts of codes and ends are those of docs/embedding.md. (What is refused, loans, threads and memory
+are tried by c_library_use.py and c_library_memory.py.)"""
 import argparse
 import os
 import re
@@ -67,8 +68,8 @@ def check_interface(count: ran.Count, library: str, room: str) -> None:
         imports(f"{library}/libbullmyrtle.so.1") == ([], sorted(interface.OF_C)),
         f"{imports(f'{library}/libbullmyrtle.so.1')}",
     )
-    due = {it: interface.FIRST_VERSION if it in interface.FIRST_CALLS else interface.NEXT_VERSION for it in header}
-    count.check("each call has its version", versions == due, f"{versions}")
+    count.check("the map has one version", interface.versions_in_map() == [interface.VERSION])
+    count.check("each call has it", versions == dict.fromkeys(header, interface.VERSION), f"{versions}")
     status, names, _ = said(["nm", "-g", "--defined-only", "--format=just-symbols", f"{library}/libbullmyrtle.a"])
     defined = {it for it in names.decode().split() if not it.endswith(":")}
     count.check(
@@ -88,25 +89,20 @@ def check_interface(count: ran.Count, library: str, room: str) -> None:
     )
 
 
-def check_first_hosts(count: ran.Count) -> None:
-    """What hosts of the first header rely on."""
-    for name, wanted in interface.FIRST_LAYOUTS.items():
-        count.check(
-            f"{name} lies as in the first header", interface.laid_out(name) == wanted, f"{interface.laid_out(name)}"
-        )
+def check_hosts(count: ran.Count) -> None:
+    """What hosts rely on that were built for this interface."""
+    count.same("these are of this interface", interface.interface_in_header(), interface.INTERFACE)
+    count.same("the layouts are those of all structs", {*interface.LAYOUTS}, {*interface.STRUCTS})
+    for name, wanted in interface.LAYOUTS.items():
+        count.same(f"{name} lies as it did", interface.laid_out(name), wanted)
     values = interface.names_in_header()
-    for names in interface.FIRST_NAMES:
-        count.check(
-            f"{names[0]} and its neighbours have their values",
-            [values.get(it) for it in names] == [*range(len(names))],
-            f"{values}",
-        )
-    added = interface.versions_in_map()
-    count.check(
-        "the first version has the first calls",
-        {*added.get(interface.FIRST_VERSION, [])} == interface.FIRST_CALLS,
-        f"{added}",
-    )
+    for first, kinds in enumerate((interface.NAMES, interface.NAMES_FROM_1)):
+        for names in kinds:
+            wanted = [*range(first, first + len(names))]
+            count.same(f"{names[0]} and its neighbours have their values", [values.get(it) for it in names], wanted)
+    due = {it for kinds in (interface.NAMES, interface.NAMES_FROM_1) for names in kinds for it in names}
+    # (the rules are those of the page: c_judge.py)
+    count.same("no other name has a value", {it for it in values if not it.startswith("BM_RULE_")}, due)
 
 
 def check_texts(count: ran.Count, library: str, room: str) -> None:
@@ -120,7 +116,7 @@ def check_texts(count: ran.Count, library: str, room: str) -> None:
     ends = [text for name, _, text in rows_of if name.startswith("BM_OVER_")]
     count.check(
         "the page has all codes and ends",
-        (len(codes), len(ends)) == (len(interface.FIRST_NAMES[0]), len(interface.FIRST_NAMES[-1])),
+        (len(codes), len(ends)) == (len(interface.CODES), len(interface.ENDS)),
     )
     with open(f"{room}/texts.c", "w", encoding="ascii") as it:
         it.write(interface.program_of_texts(len(codes), len(ends)))
@@ -204,16 +200,8 @@ def check_cpp(count: ran.Count, library: str, room: str) -> None:
 # Scripts
 
 
-def check_packed(count: ran.Count, library: str, room: str, way: str) -> None:
-    packer = build(count, library, room, f"{SUPPORT}/pack_events.c", way, ["-std=c11"])
-    got = said([packer], rows.EVENTS)
-    count.check(f"many events at once are those one by one, {way}", got == (0, b"7 events\n", b""), f"{got}")
-
-
 def check_players(count: ran.Count, library: str, room: str, cases: int) -> None:
     by_hand = rows.all_rows()
-    for way in ("shared", "static"):
-        check_packed(count, library, room, way)
     for way in ("shared", "static"):
         player = build(count, library, room, PLAYER, way, PLAYER_NEEDS)
         playing_scripts.check(count, [player], way, by_hand + [row.cut_once for row in by_hand])
@@ -240,7 +228,7 @@ def main(words: list[str]) -> None:
     else:
         with tempfile.TemporaryDirectory(prefix="c-library-") as room:
             check_interface(count, library, room)
-            check_first_hosts(count)
+            check_hosts(count)
             check_texts(count, library, room)
             check_header(count, library)
             for way in ("shared", "static"):

@@ -40,6 +40,9 @@ class Event(ctypes.Structure):
         ("name_len", ctypes.c_size_t),
         ("text_len", ctypes.c_size_t),
         ("id_len", ctypes.c_size_t),
+        ("name", ctypes.c_void_p),
+        ("text", ctypes.c_void_p),
+        ("id", ctypes.c_void_p),
     ]
 
 
@@ -54,21 +57,25 @@ class Connection:
     def feed(self, bytes_read: bytes) -> int:
         return int(self.library.bm_feed(ctypes.byref(self.at), bytes_read, ctypes.c_size_t(len(bytes_read))))
 
-    def next(self) -> tuple[int, int, int, bytes]:
-        event, room = Event(), ctypes.create_string_buffer(64)
-        code = self.library.bm_next(ctypes.byref(self.at), ctypes.byref(event), room, ctypes.c_size_t(len(room)))
+    def next(self) -> tuple[int, int, int, tuple[bytes, bytes, bytes]]:
+        event = Event()
+        code = self.library.bm_next(ctypes.byref(self.at), ctypes.byref(event))
         assert code == OK, code
-        texts = room.raw[: event.name_len + event.text_len + event.id_len + 2] if event.kind == CALL else b""
-        return event.kind, event.flags, event.number, texts
+        texts = ((event.name, event.name_len), (event.text, event.text_len), (event.id, event.id_len))
+        name, text, id_ = (ctypes.string_at(at, length) if length else b"" for at, length in texts)
+        return event.kind, event.flags, event.number, (name, text, id_)
 
     def answer(self, number: int, result: bytes) -> int:
         length = ctypes.c_size_t(len(result))
         return int(self.library.bm_answer(ctypes.byref(self.at), ctypes.c_uint64(number), result, length))
 
-    def take(self) -> bytes:
-        room = ctypes.create_string_buffer(256)
-        taken = self.library.bm_take(ctypes.byref(self.at), room, ctypes.c_size_t(len(room)))
-        return room.raw[:taken]
+    def output(self) -> bytes:
+        """All that is to be written, which is written then."""
+        made, place = b"", ctypes.c_void_p()
+        while length := self.library.bm_output(ctypes.byref(self.at), ctypes.byref(place)):
+            made += ctypes.string_at(place, length)
+            assert self.library.bm_written(ctypes.byref(self.at), ctypes.c_size_t(length)) == OK
+        return made
 
     def fault(self) -> int | None:
         place = ctypes.c_uint64()
@@ -80,7 +87,11 @@ class Connection:
 
 def loaded(folder: str) -> ctypes.CDLL:
     library = ctypes.CDLL(f"{folder}/libbullmyrtle.so.1")
-    library.bm_take.restype, library.bm_fault_at.restype, library.bm_free.restype = ctypes.c_size_t, ctypes.c_bool, None
+    library.bm_output.restype, library.bm_fault_at.restype, library.bm_free.restype = (
+        ctypes.c_size_t,
+        ctypes.c_bool,
+        None,
+    )
     return library
 
 
@@ -106,10 +117,10 @@ def check_longest(count: ran.Count, library: ctypes.CDLL, framing: int, name: st
     for piece in framed(framing, LONGEST):
         count.check(f"{name}: a piece is taken", connection.feed(piece) == OK)
         length += len(piece)
-    count.same(f"{name}: the longest content is a request", connection.next(), (CALL, REQUEST, 1, b"m\0\0001"))
+    count.same(f"{name}: the longest content is a request", connection.next(), (CALL, REQUEST, 1, (b"m", b"", b"1")))
     count.same(f"{name}: it is answered", connection.answer(1, b"true"), OK)
     answer = b"Content-Length: %d\r\n\r\n%s" % (len(ANSWER), ANSWER) if framing == FRAMES else ANSWER + b"\n"
-    count.same(f"{name}: the answer", connection.take(), answer)
+    count.same(f"{name}: the answer", connection.output(), answer)
     count.same(f"{name}: nothing else is told", connection.next()[0], NONE)
     count.same(f"{name}: nothing is at fault", connection.fault(), None)
     for piece in framed(framing, LONGEST + 1):

@@ -2,7 +2,7 @@
 
 Nothing gives up where there is much, though memory is there: a connection and a judge of the C library, and the table
 peer, beyond each bound that they may have inside. A batch of 200,000 requests, where so many entries are allowed; 200,000 requests open at once;
-10,000 contents in one piece; ids of 1, 10,000 and 1,000,000 bytes; output of more than 1 MB in one take; and an array of
+10,000 contents in one piece; ids of 1, 10,000 and 1,000,000 bytes; output of more than 1 MB; and an array of
 5,000 responses before the judge, where just the wrong one is found. The table peer takes the same batch, pieces and ids,
 and params with much of each kind, which it calls back with, or passes by for a method that it doesn't have. (The judge has 200,000 requests open in
 c_judge_costs.py, and 100,000 findings from one piece in c_library_memory.py.) What is wanted is written by hand from the
@@ -102,7 +102,7 @@ SCRIPTS: dict[str, Callable[[], Iterable[Step]]] = {
     f"{IN_PIECE:,} lines in one piece": lambda: in_one_piece("lines", lines),
     f"{IN_PIECE:,} frames in one piece": lambda: in_one_piece("frames", frames),
     "ids of 1, 10,000 and 1,000,000 bytes": long_ids,
-    f"{OUTPUT:,} bytes in one take": large_output,
+    f"{OUTPUT:,} bytes of output": large_output,
 }
 
 

@@ -7,10 +7,11 @@ whatever else is large or comes often: content, line or response of 16 MB, 100,0
 judge, and behind the second and the third of them there are the same bytes, to the kilobyte. A judge that finds 100,000
 things in one piece is known to keep their room. A content that waits, one or a line that isn't whole, and an answer that
 waits for an earlier one take at most twice their bytes; a request that is open among 32 at most five times what it takes
-where the others are open too; and a batch of which one request is open no more than 16 KiB. So much at most is behind a
-long text of the output. Under valgrind, where it is installed, rows, random sessions and all examples have no error and
-lose nothing. By AddressSanitizer, where clang has it, the same of rows and examples: it doesn't see into the library, so
-sessions would show no more by it."""
+where the others are open too; and a batch of which one request is open no more than 16 KiB. So much at most is held
+behind a long text of the output and behind the last of many, and with all written there are the same bytes behind each
+long one, to the kilobyte. Under valgrind, where it is installed, rows, random sessions, loans and all examples have no
+error and lose nothing. By AddressSanitizer, where clang has it, the same of rows, loans and examples: it sees what the
+library has given back, and not into the library, so sessions would show no more by it."""
 import argparse
 import os
 import re
@@ -164,11 +165,15 @@ def check_kept_output(count: ran.Count, library: str, room: str) -> None:
     program = build(count, library, room, f"{SUPPORT}/kept_output.c", "static", ["-D_GNU_SOURCE"])
     for framing in ("frames", "lines", "contents"):
         got = said([program, framing, str(LARGE), str(MANY)])
-        long, many = map(int, got[1].split()) if got[0] == 0 else (1 << 60, 1 << 60)
+        long, many, left, *more = map(int, got[1].split()) if got[0] == 0 else [1 << 60] * 5
         print(
-            f"output in {framing}: {long:,} bytes held behind {LARGE:,}, {many:,} at the last of {MANY:,}", flush=True
+            f"output in {framing}: {long:,} bytes held behind {LARGE:,}, with a short one left, {many:,} at the last of "
+            f"{MANY:,}; {left:,} are left with all written, {more[0]:,} and {more[1]:,} more than before",
+            flush=True,
         )
-        count.check(f"what is written and taken is given back, in {framing}", max(long, many) <= BEHIND, f"{got}")
+        count.check(f"what is written is given back, in {framing}", max(long, many) <= BEHIND, f"{got}")
+        is_even = left <= LEFT and all(abs(it) <= EVEN for it in more)
+        count.check(f"no room is kept behind long output, in {framing}", is_even, f"{got}")
 
 
 def sessions(cases: int) -> list[rows.Row]:
@@ -211,8 +216,7 @@ def check_by_valgrind(count: ran.Count, library: str, room: str, cases: int) -> 
     playing_scripts.check(count, [*VALGRIND, player], "valgrind", sessions(cases))
     playing_scripts.check(count, [*VALGRIND, player, "together"], "valgrind, together", playing_scripts.short_rows())
     playing_scripts.check(count, [*VALGRIND, player, "together"], "valgrind, together", sessions(cases))
-    packer = build(count, library, room, f"{SUPPORT}/pack_events.c", "static", ["-std=c11"])
-    watched(count, "packed events", [packer], rows.EVENTS)
+    watched(count, "loans", [build(count, library, room, f"{SUPPORT}/loans.c", "static")])
     check_examples(count, library, room, "valgrind", VALGRIND, C99)
     summary = said(["valgrind", "--leak-check=full", player], script.written(sessions(FEW)[0].actions).encode())[
         2
@@ -229,13 +233,9 @@ def check_by_sanitizer(count: ran.Count, library: str, room: str) -> None:
     player = build(count, library, room, PLAYER, "static", PLAYER_NEEDS, SANITIZED)
     playing_scripts.check(count, [player], "AddressSanitizer", rows.all_rows())
     playing_scripts.check(count, [player, "together"], "AddressSanitizer, together", rows.all_rows())
-    programs: list[tuple[str, bytes, list[str]]] = [
-        (f"{SUPPORT}/pack_events.c", rows.EVENTS, ["-std=c11"]),
-        (f"{SUPPORT}/bad_use.c", b"", []),
-    ]
-    for file, given, more in programs:
-        got = said([build(count, library, room, file, "static", more, SANITIZED)], given)
-        count.check(f"{os.path.basename(file)}, AddressSanitizer", got[0] == 0 and not got[2], f"{got}"[-1500:])
+    for file in ("loans.c", "bad_use.c"):
+        got = said([build(count, library, room, f"{SUPPORT}/{file}", "static", words=SANITIZED)])
+        count.check(f"{file}, AddressSanitizer", got[0] == 0 and not got[2], f"{got}"[-1500:])
     check_examples(count, library, room, "AddressSanitizer", [], SANITIZED)
 
 

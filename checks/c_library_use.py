@@ -1,10 +1,10 @@
 """usage: python3 checks/c_library_use.py [--library FOLDER]
 
 The C library as hosts use it, rightly and wrongly. What is refused: each code for each call that gives it, with nothing
-changed by it, which a second connection shows that goes the same way without it; lengths of 0, rooms that are too
-small, texts that aren't UTF-8, impossible settings. Each request for memory is refused in turn, alone and with those
-behind it: the call has changed nothing, and made again it goes on, so that scripts and packed events give what they do
-otherwise. Eight threads with a connection each write the same bytes as one connection alone."""
+changed by it, which a second connection shows that goes the same way without it; lengths of 0, NULL where they are, texts that aren't UTF-8,
+impossible settings, more written than is lent. What is lent keeps its place and its bytes over all calls that don't end the loan, and may be
+passed to them. Each request for memory is refused in turn, alone and with those behind it: the call has changed nothing, and made again it goes
+on, so that scripts give what they do otherwise. Eight threads with a connection each write the same bytes as one connection alone."""
 import argparse
 import os
 import re
@@ -22,30 +22,14 @@ from support.c_programs import C99, PLAYER, PLAYER_NEEDS, SUPPORT
 from support.c_programs import build, default_library, is_whole, said, watched, wrapped
 
 # The calls that need memory.
-NEED_MEMORY = {
-    *(
-        "bm_new",
-        "bm_open",
-        "bm_feed",
-        "bm_next",
-        "bm_next_all",
-        "bm_call",
-        "bm_call_batch",
-        "bm_notify",
-        "bm_withdraw",
-        "bm_answer",
-        "bm_fail",
-        "bm_cancel",
-    ),
-    *("bm_fed", "bm_tell", "bm_say_all"),
-}
+NEED_MEMORY = {f"bm_{it}" for it in "open feed next say_all call call_batch notify withdraw answer fail cancel".split()}
 # By what requests are refused.
 REFUSING = f"{SUPPORT}/refuse_calls.c"
 # The codes that hosts meet: all but BM_OK, BM_NO_MEMORY and BM_FULL.
-CODES = range(2, 10)
+CODES = range(2, 9)
 WAYS = ("REFUSE_NTH", "REFUSE_FROM")
-# (a script's requests are few hundreds; those of packed events are so many that one in STEP is tried)
-MOST, STEP = 1_000_000, 997
+# (a script's requests are few hundreds)
+MOST = 1_000_000
 # So many random sessions are tried too.
 SESSIONS = 4
 # (the longest scripts are left out)
@@ -69,6 +53,15 @@ def check_refusals(count: ran.Count, library: str, room: str) -> None:
         for code in CODES:
             count.check(f"the code {code} is given, {way}", told.get(code, 0) > 0, f"{told}")
     watched(count, "what hosts do wrong", [program])
+
+
+def check_loans(count: ran.Count, library: str, room: str) -> None:
+    """(under AddressSanitizer: c_library_memory.py)"""
+    for way in ("shared", "static"):
+        program = build(count, library, room, f"{SUPPORT}/loans.c", way)
+        got = said([program])
+        count.check(f"what is lent stays as it is, {way}", got == (0, b"", b""), f"{got}")
+    watched(count, "loans", [program])
 
 
 class Refusing:
@@ -100,12 +93,11 @@ class Refusing:
         given: bytes,
         wanted: bytes,
         ways: Iterable[str] = WAYS,
-        step: int = 1,
         words: Iterable[str] = (),
     ) -> None:
         """Refuses each request in turn, until a run meets no refusal."""
         for how in ways:
-            for number in range(1, MOST, step):
+            for number in range(1, MOST):
                 got, refused = self.run(given, how, number, words)
                 well = got == (0, wanted, b"")
                 if not well:
@@ -126,9 +118,7 @@ def check_memory(count: ran.Count, library: str, room: str) -> None:
         if len(given) <= LONGEST:
             refusing.each(it.name, given, wanted)
             refusing.each(f"{it.name}, together", given, wanted, WAYS[:1], words=["together"])
-    packing = Refusing(count, library, room, f"{SUPPORT}/pack_events.c", ["-std=c11", *PLAYER_NEEDS])
-    packing.each("packed events", rows.EVENTS, b"7 events\n", WAYS[:1], STEP)
-    runs, told = refusing.runs + packing.runs, refusing.told + packing.told
+    runs, told = refusing.runs, refusing.told
     print(
         f"{runs:,} runs, each with another request for memory refused; {told.total() - told['refused']:,} calls gave BM_NO_MEMORY",
         flush=True,
@@ -165,6 +155,7 @@ def main(words: list[str]) -> None:
         count.end()
     with tempfile.TemporaryDirectory(prefix="c-library-") as room:
         check_refusals(count, library, room)
+        check_loans(count, library, room)
         check_threads(count, library, room)
         check_memory(count, library, room)
     count.end()

@@ -10,10 +10,8 @@
 #include <new>
 #include <optional>
 #include <stdexcept>
-#include <string>
 #include <string_view>
 #include <utility>
-#include <vector>
 
 namespace bullmyrtle
 {
@@ -36,8 +34,8 @@ class error : public std::runtime_error
     std::int32_t code_;
 };
 
-// An event, as bm_event has it. Its texts are views of the connection's buffer: they hold until the next event is asked
-// for, or the connection is moved or destroyed.
+// An event, as bm_event has it. Its texts are views of what the library lends: they hold until the connection is fed,
+// ended, asked for the next event or destroyed, and so may be passed to its other calls.
 struct event {
     std::uint32_t kind = BM_NONE, flags = 0;
     std::uint64_t number = 0, key = 0;
@@ -62,15 +60,13 @@ class connection
     connection(const connection &) = delete;
     connection &operator=(const connection &) = delete;
 
-    connection(connection &&other) noexcept
-        : held_(std::exchange(other.held_, bm_connection{nullptr})), buffer_(std::move(other.buffer_))
+    connection(connection &&other) noexcept : held_(std::exchange(other.held_, bm_connection{nullptr}))
     {
     }
 
     connection &operator=(connection &&other) noexcept
     {
         std::swap(held_, other.held_);
-        std::swap(buffer_, other.buffer_);
         return *this;
     }
 
@@ -95,19 +91,18 @@ class connection
     // The next event, or nothing where there is none now.
     std::optional<event> next()
     {
-        bm_event told;
-        std::int32_t code;
-        while ((code = bm_next(&held_, &told, buffer_.data(), buffer_.size())) == BM_SMALL)
-            buffer_.resize(told.name_len + told.text_len + told.id_len + 3);
-        check(code);
-        if (told.kind == BM_NONE)
+        bm_event it;
+        check(bm_next(&held_, &it));
+        if (it.kind == BM_NONE)
             return std::nullopt;
-        const char *at = reinterpret_cast<const char *>(buffer_.data());
-        event made{told.kind, told.flags, told.number, told.key, told.code, {}, {}, {}};
-        made.name = {at, told.name_len};
-        made.text = {at + told.name_len + 1, told.text_len};
-        made.id = {at + told.name_len + told.text_len + 2, told.id_len};
-        return made;
+        return event{it.kind,
+                     it.flags,
+                     it.number,
+                     it.key,
+                     it.code,
+                     view(it.name, it.name_len),
+                     view(it.text, it.text_len),
+                     view(it.id, it.id_len)};
     }
 
     // Where the frame or line begins that put an end to the input.
@@ -168,13 +163,19 @@ class connection
         return bm_pending(&held_);
     }
 
-    // Moves what is to be written to the end of a string: all of it, or as many bytes as are asked for. A connection
-    // whose framing is BM_CONTENTS gives one message at a time.
-    void take(std::string &to, std::size_t most = SIZE_MAX)
+    // What is to be written, or the first bytes of it: an empty view only where there is nothing. It holds until some
+    // of it was written, or the connection is destroyed. With the framing BM_CONTENTS it is one message.
+    std::string_view output() noexcept
     {
-        const std::size_t size = to.size(), wanted = pending() < most ? pending() : most;
-        to.resize(size + wanted);
-        to.resize(size + bm_take(&held_, reinterpret_cast<std::uint8_t *>(&to[size]), wanted));
+        const std::uint8_t *at = nullptr;
+        const std::size_t length = bm_output(&held_, &at);
+        return view(at, length);
+    }
+
+    // Says how many bytes of the output were written: ask for it again.
+    void written(std::size_t length)
+    {
+        check(bm_written(&held_, length));
     }
 
     // State
@@ -199,7 +200,6 @@ class connection
 
   private:
     bm_connection held_{nullptr};
-    std::vector<std::uint8_t> buffer_ = std::vector<std::uint8_t>(4096);
 
     static void check(std::int32_t code)
     {
@@ -209,10 +209,14 @@ class connection
             throw error(code);
     }
 
-    // (no pointer that is passed may be NULL, and an empty view's may be)
     static const std::uint8_t *data(std::string_view text) noexcept
     {
-        return reinterpret_cast<const std::uint8_t *>(text.data() ? text.data() : "");
+        return reinterpret_cast<const std::uint8_t *>(text.data());
+    }
+
+    static std::string_view view(const std::uint8_t *at, std::size_t length) noexcept
+    {
+        return {reinterpret_cast<const char *>(at), length};
     }
 };
 

@@ -1,20 +1,30 @@
 /* JSON-RPC 2.0 connections, and a judge of conversations.
  *
- * A connection (bm_new, bm_open) is one end of a JSON-RPC 2.0 conversation; its methods are your own code. It does no
- * input or output, starts no threads and reads no clock. In any order, you feed it the bytes that you have read, ask it
- * for events, answer requests, send requests and notifications, and take the bytes to be written. docs/connection.md
+ * A connection (bm_open) is one end of a JSON-RPC 2.0 conversation; its methods are your own code. It does no input or
+ * output, starts no threads and reads no clock. In any order, you feed it the bytes that you have read, ask it for
+ * events, answer requests, send requests and notifications, and write the bytes that it lends you. docs/connection.md
  * defines what it does.
  *
- * A judge (bm_judge_new) is given what two sides wrote, and reports which of them broke which rule of the protocol.
+ *     bm_feed(&connection, piece, length);
+ *     while ((code = bm_next(&connection, &event)) == BM_OK && event.kind != BM_NONE)
+ *         look at the event, and call bm_answer, bm_fail, bm_call, ..
+ *     while ((length = bm_output(&connection, &bytes)) > 0)
+ *         write some of the bytes, and say by bm_written how many
+ *
+ * A judge (bm_judge_open) is given what two sides wrote, and reports which of them broke which rule of the protocol.
  *
  * Rules for all functions
  *
- * Memory. The functions copy the bytes that you pass. The library keeps no pointer of yours, and gives you none to its
- *   own buffers. It uses malloc, realloc and free of the C library.
- * Pointers. No pointer may be NULL, with one exception: in the functions of BM_HAS_TOGETHER and BM_HAS_JUDGE (below) a
- *   pointer to bytes, sayings or findings may be NULL if its length or count is 0. A pointer to a struct or an integer
- *   must have the alignment that C requires for its type. Memory that a function writes to (an event, a buffer, a key,
- *   a count) must not overlap with anything else that is passed to it.
+ * Memory. The functions copy the bytes that you pass, and keep no pointer of yours. The library uses malloc, realloc
+ *   and free of the C library.
+ * Loans. Two things are lent to you, and lie in the memory of the connection: you may read them, and not change them.
+ * The texts of an event hold until the next bm_feed, bm_end, bm_next or bm_free on the connection. What bm_output lends
+ *   holds until the next bm_written or bm_free. All other calls leave both as they are, and where they are: you may
+ *   answer, call and write while you look at an event, and pass its texts, or parts of them, to these calls. Pass no
+ *   other memory of the library to it.
+ * Pointers. No pointer may be NULL, but one to bytes, lengths, sayings, events or findings whose length or count is 0.
+ *   A pointer to a struct or an integer must have the alignment that C requires for its type. Memory that a function
+ *   writes to (an event, a key, a count) must not overlap with anything else that is passed to it.
  * Lengths. They are in bytes, unless stated otherwise. Text that you pass needs no terminating zero byte.
  * Threads. On one connection, or on one judge, make one call at a time. It may come from any thread, as long as
  *   something, such as a lock, orders the calls. Hold the lock until you have stored the key of an outgoing request, so
@@ -29,9 +39,7 @@
  * JSON. A JSON text is one value in UTF-8. One that you pass may be nested at most 120 levels deep. It is reported and
  *   sent in compact form: without whitespace between its parts, with its members in their order, and with all digits of
  *   its numbers. Half of a surrogate pair, as in "\ud800", isn't valid, whether it is received or passed.
- * Versions. bm_interface() stays 1 as long as functions are only added; bm_has() reports which were. In the shared
- *   library the added symbols have the version BULLMYRTLE_2, so that a program that needs them isn't started with a
- *   library that lacks them.
+ * Versions. bm_interface() stays 1 as long as functions are only added.
  */
 #ifndef BULLMYRTLE_H
 #define BULLMYRTLE_H
@@ -56,8 +64,7 @@ enum {
     BM_OVER,        /* the input has ended */
     BM_NOT_JSON,    /* not a JSON text, or params that are neither an array nor an object */
     BM_NOT_TEXT,    /* a method or an error message that isn't UTF-8 */
-    BM_SMALL,       /* the buffer is too small for the next event or output, which is kept */
-    BM_SETTINGS,    /* an invalid setting, end of the input, side, kind of saying or list of lengths */
+    BM_SETTINGS,    /* an invalid setting, end of the input, side, kind of saying, list of lengths or length written */
     BM_EMPTY,       /* a batch without requests */
     BM_FULL         /* the keys would exceed 2^53 - 1 */
 };
@@ -66,7 +73,7 @@ enum {
 enum {
     BM_FRAMES,  /* after a header with the Content-Length, as in the Language Server Protocol */
     BM_LINES,   /* one message per line, as in MCP's stdio transport */
-    BM_CONTENTS /* one message per call of bm_feed and of bm_take, as with WebSocket */
+    BM_CONTENTS /* one message per call of bm_feed and of bm_output, as with WebSocket */
 };
 
 /* When responses are sent. */
@@ -117,21 +124,6 @@ enum {
     BM_OVER_TRUNCATED,     /* the input was closed inside a frame (BM_FRAMES) */
     BM_OVER_READ,          /* bm_end was passed BM_READ_FAILED */
     BM_OVER_CALLS          /* more requests and notifications were received than the setting allows */
-};
-
-/* The additions that bm_has() knows. */
-enum {
-    BM_HAS_TOGETHER = 1, /* bm_tell, bm_fed, bm_say_all, bm_taken and bm_close_call */
-    BM_HAS_OPEN,         /* bm_open, bm_fault_at, BM_BROKEN and BM_CANCELS_MCP */
-    BM_HAS_JUDGE         /* bm_judge_new, bm_judge_saw, bm_judge_ended, bm_judge_next and bm_judge_free */
-};
-
-/* Why bm_tell or bm_fed reports no more events. */
-enum {
-    BM_STOP_NONE,     /* there is no other event now */
-    BM_STOP_ROOM,     /* the next event doesn't fit in the rest of the buffer */
-    BM_STOP_MOST,     /* as many were reported as you asked for */
-    BM_STOP_NO_MEMORY /* out of memory; nothing is lost, and the call may be made again */
 };
 
 /* The kinds of sayings: for each the function that does the same, and its fields, name and text. */
@@ -206,17 +198,8 @@ enum {
     BM_RULE_TWICE
 };
 
-/* The settings of bm_new. All zero is a good start: frames, responses as soon as possible, no cancels, and the maximum
- * limits. */
-typedef struct {
-    uint32_t framing;       /* BM_FRAMES, BM_LINES or BM_CONTENTS */
-    uint32_t order;         /* BM_AS_ANSWERED or BM_AS_CAME */
-    uint32_t takes_cancels; /* 1 if $/cancelRequest is a cancel (BM_CANCELS_LSP), else 0 */
-    uint32_t content;       /* maximum message size in bytes, at most 16,777,216; 0 means this maximum */
-    uint64_t calls;         /* maximum number of requests and notifications received; 0 means 2^64 - 1 */
-} bm_settings;
-
-/* The options of bm_open. All zero except the size is a good start, as with bm_settings. */
+/* The options of bm_open. All zero except the size is a good start: frames, responses as soon as possible, no cancels,
+ * and the default limits. */
 typedef struct {
     uint32_t size;    /* sizeof(bm_options): it tells the library which fields there are */
     uint32_t framing; /* BM_FRAMES, BM_LINES or BM_CONTENTS */
@@ -224,7 +207,7 @@ typedef struct {
     uint32_t cancels; /* BM_CANCELS_NONE, BM_CANCELS_LSP or BM_CANCELS_MCP */
     uint32_t broken;  /* 1 to report BM_BROKEN, else 0 */
     uint32_t content; /* maximum message size in bytes, at most 2,147,483,647; 0 means 16,777,216 */
-    uint64_t calls;   /* as in bm_settings */
+    uint64_t calls;   /* maximum number of requests and notifications received; 0 means 2^64 - 1 */
     uint32_t entries; /* maximum batch size; 0 means 100,000, and UINT32_MAX unlimited. A longer batch is treated as one
                        * invalid entry: it gets one response, none of its requests and notifications is reported, and
                        * the responses in it are lost */
@@ -236,10 +219,8 @@ typedef struct {
     void *at;
 } bm_connection;
 
-/* An event. Its name, text and id are written to the buffer that was passed with it, one after the other, each followed
- * by a zero byte. So the text begins at room + name_len + 1, the id at room + name_len + text_len + 2, and all three
- * need name_len + text_len + id_len + 3 bytes. The lengths don't count the zero bytes, which are there for lengths of 0
- * too. What isn't listed for a kind is 0.
+/* An event. Its name, text and id are lent: they hold until the next bm_feed, bm_end, bm_next or bm_free. No
+ * zero byte follows them. What isn't listed for a kind is 0, and has no bytes.
  *
  *   BM_CALL        number; flags: BM_REQUEST, or 0 for a notification; name: the method; text: the params as JSON, of
  *                  length 0 if they are absent, or if they are null and bm_options don't ask for null params; id: as
@@ -264,6 +245,9 @@ typedef struct {
     size_t name_len;
     size_t text_len;
     size_t id_len;
+    const uint8_t *name;
+    const uint8_t *text;
+    const uint8_t *id;
 } bm_event;
 
 /* What has happened so far. */
@@ -273,20 +257,11 @@ typedef struct {
     uint64_t open;            /* requests and notifications received that aren't answered yet */
     uint64_t waiting;         /* outgoing requests that are pending */
     uint64_t own_calls;       /* outgoing requests, each one of a batch counted */
-    uint64_t answers_written; /* responses sent, whether taken or not; an array counts as one */
+    uint64_t answers_written; /* responses sent, whether written yet or not; an array counts as one */
     uint64_t unreadable;      /* messages that couldn't be read (BM_UNREADABLE) */
     uint64_t invalid;         /* invalid messages; in a batch, each invalid entry (BM_INVALID) */
     uint64_t ignored;         /* responses that no request waited for, and cancels that reached no request */
 } bm_report;
-
-/* What bm_tell and bm_fed reported. */
-typedef struct {
-    uint32_t count;   /* how many events are in the buffer */
-    uint32_t stopped; /* why there are no more: BM_STOP_NONE or one of the values after it */
-    size_t used;      /* how many bytes of the buffer they take, up to the last zero byte of the last one */
-    size_t needed;    /* with BM_STOP_ROOM, the buffer size that the next event needs by itself; else 0 */
-    size_t pending;   /* what bm_pending returns then */
-} bm_told;
 
 /* One saying of bm_say_all: a response, an outgoing request or batch, a notification or a cancel. Its name and its text
  * are in the bytes that are passed with it, after those of the sayings before it: first the name, then the text, with
@@ -303,14 +278,7 @@ typedef struct {
     size_t calls;    /* for BM_SAY_BATCH, how many of the sayings right after it are its requests */
 } bm_saying;
 
-/* The result of bm_say_all. */
-typedef struct {
-    size_t refused; /* how many sayings got a code other than BM_OK */
-    size_t taken;   /* how many bytes were moved to the buffer */
-    size_t pending; /* what bm_pending returns then */
-} bm_said;
-
-/* The options of bm_judge_new. All zero except the size is a good start: JSON-RPC, frames, and the default limits. */
+/* The options of bm_judge_open. All zero except the size is a good start: JSON-RPC, frames, and the default limits. */
 typedef struct {
     uint32_t size;    /* sizeof(bm_judge_options) */
     uint32_t rules;   /* BM_RULES_JSONRPC or one of the values after it */
@@ -340,22 +308,11 @@ typedef struct {
 /* Returns the version of the library's functions. Compare it with BM_INTERFACE before any other call. */
 uint32_t bm_interface(void);
 
-/* Returns whether the library has an addition: BM_HAS_TOGETHER or one of the values after it. The result for a
- * number that it doesn't know is false. */
-bool bm_has(uint32_t addition);
-
 /* Creates a connection and writes it to *at, as in
- *     bm_connection connection;
- *     int32_t code = bm_new(&settings, &connection.at);
- * *at needn't be initialized, and is written only if the code is BM_OK. Free the connection by bm_free.
- * BM_SETTINGS: the settings aren't valid. BM_NO_MEMORY. */
-int32_t bm_new(const bm_settings *settings, void **at);
-
-/* Creates a connection as bm_new does, with settings that bm_settings lacks, as in
  *     bm_options options = {.size = sizeof options, .framing = BM_LINES, .cancels = BM_CANCELS_MCP, .broken = 1};
+ *     bm_connection connection;
  *     int32_t code = bm_open(&options, &connection.at);
- * bm_new is bm_open with the same values, BM_CANCELS_LSP or BM_CANCELS_NONE, batches of any size, and without BM_BROKEN
- * and null params.
+ * *at needn't be initialized, and is written only if the code is BM_OK. Free the connection by bm_free.
  * BM_SETTINGS: the options aren't valid, or the library doesn't know their size. BM_NO_MEMORY. */
 int32_t bm_open(const bm_options *options, void **at);
 
@@ -378,47 +335,23 @@ int32_t bm_end(bm_connection *connection, uint32_t how);
  * fault, *offset is left unchanged. An offset of 2^64 or more, here and in BM_BROKEN, is reported as 2^64 - 1. */
 bool bm_fault_at(bm_connection *connection, uint64_t *offset);
 
-/* Reports the next event: moves it to *event and to the buffer `room`. Call it until the kind is BM_NONE, since an
- * invalid message is answered only by the call that goes past it. BM_NONE needs no space in the buffer.
- * BM_SMALL: the event doesn't fit in the buffer. *event is written, so its lengths say how much space it needs. The
- * event isn't reported yet, and the next call returns it again. BM_NO_MEMORY. */
-int32_t bm_next(bm_connection *connection, bm_event *event, uint8_t *room, size_t length);
-
-/* Reports as many of the next events as fit in the buffer `room`: each as a bm_event, directly followed by its name,
- * text and id, and each at the next multiple of 8 bytes from the buffer's start. The buffer itself must be aligned to 8
- * bytes. Writes to *count how many events there are, 0 if there is none now, and to *used how many bytes of the buffer
- * they take, up to the last zero byte of the last one: this isn't rounded up to a multiple of 8.
- * The function looks for one event more than it reports, so messages may have been read of which nothing is reported
- * yet. An event that doesn't fit is the first one of the next call, of this function or of bm_next. If memory runs out
- * after the first event, the function stops early and doesn't say so: call it until the count is 0, or use bm_tell,
- * which says why it stopped.
- * BM_SMALL: the first event doesn't fit. *count is 0, and *used is the buffer size that it needs. BM_NO_MEMORY:
- * there is no memory for the first event. */
-int32_t bm_next_all(bm_connection *connection, uint8_t *room, size_t length, size_t *used, uint32_t *count);
-
-/* Reports as many of the next events as fit in the buffer `room`, at most `most`; 0 means no maximum. The buffer has
- * the alignment and the layout of bm_next_all. Writes to *told how many events there are, and why there are no more.
- * With BM_STOP_NONE all input that was fed has been read. With BM_STOP_ROOM and a count of 0, the buffer must grow
- * to the field `needed` of *told. */
-void bm_tell(bm_connection *connection, uint8_t *room, size_t length, uint32_t most, bm_told *told);
-
-/* Does bm_feed and then bm_tell. If the code isn't BM_OK, nothing was fed or reported, and *told isn't written.
- * BM_OVER, BM_NO_MEMORY. */
-int32_t bm_fed(bm_connection *connection, const uint8_t *bytes, size_t length, uint8_t *room, size_t room_length,
-               uint32_t most, bm_told *told);
+/* Reports the next event: writes it to *event, and lends its texts. Call it until the kind is BM_NONE, since an invalid
+ * message is answered only by the call that goes past it.
+ * BM_NO_MEMORY: the event isn't reported yet. */
+int32_t bm_next(bm_connection *connection, bm_event *event);
 
 /* Carries out all sayings in their order, each as the function of its kind does: one that is refused changes nothing,
- * and the ones after it are carried out all the same. Writes the code of each to its field `said`. Then takes bytes as
- * bm_take does, also with a room_length of 0, and writes the result to *said.
+ * and the ones after it are carried out all the same. Writes the code of each to its field `said`, and to *refused how
+ * many got a code other than BM_OK.
  *
  * BM_SAY_BATCH is followed by its requests, as many sayings as its field `calls` says. Only their two lengths are read,
  * and nothing is written to them. If fewer sayings follow, the code of the batch is BM_SETTINGS, and none of them is
  * sent. The code of a saying of an unknown kind is BM_SETTINGS too. Bytes of a saying that its kind doesn't use are
  * skipped.
  *
- * BM_SETTINGS: the lengths of all names and texts don't add up to `length`. Then nothing is sent, taken or written. */
+ * BM_SETTINGS: the lengths of all names and texts don't add up to `length`. Then nothing is sent or written. */
 int32_t bm_say_all(bm_connection *connection, bm_saying *sayings, size_t count, const uint8_t *bytes, size_t length,
-                   uint8_t *room, size_t room_length, bm_said *said);
+                   size_t *refused);
 
 /* Sends a request on behalf of the open request or notification `number`, or of none if it is 0. Writes to *key the key
  * with which the response is reported. A params_length of 0 means no params. Once `number` is answered, responses to
@@ -467,22 +400,23 @@ int32_t bm_fail(bm_connection *connection, uint64_t number, int64_t code, const 
  * BM_NOT_OPEN, BM_NO_MEMORY. */
 int32_t bm_cancel(bm_connection *connection, uint64_t number);
 
-/* Returns how many bytes are to be written; with BM_CONTENTS, the length of the next message. It isn't limited: stop
- * feeding while it is large, such as more than a mebibyte, or more than the longest response that you send. */
+/* Lends bytes that are to be written: writes to *bytes where they begin, and returns how many they are, 0 only if
+ * nothing is to be written. With BM_CONTENTS they are one whole message. Until bm_written is called it lends the same
+ * ones again; what is sent meanwhile comes after them. It needs no memory. */
+size_t bm_output(bm_connection *connection, const uint8_t **bytes);
+
+/* Says that the first `length` bytes of those that bm_output lends were written, and ends the loan: what is left of
+ * them is lent by the next bm_output. With BM_CONTENTS a message goes as a whole.
+ * BM_SETTINGS: so many aren't lent; with BM_CONTENTS, `length` is neither 0 nor all of them. */
+int32_t bm_written(bm_connection *connection, size_t length);
+
+/* Returns how many bytes are to be written in all, lent or not; with BM_CONTENTS, the length of the next message. It
+ * isn't limited: stop feeding while it is large, such as more than a mebibyte, or more than the longest response that
+ * you send. */
 size_t bm_pending(bm_connection *connection);
 
-/* Moves the first bytes that are to be written to the buffer `room`, as many as fit, and returns how many. With
- * BM_CONTENTS it moves one whole message, or returns 0 if the buffer is too small for it or there is none;
- * bm_pending tells which. It may give memory back, by realloc. */
-size_t bm_take(bm_connection *connection, uint8_t *room, size_t length);
-
-/* Takes bytes as bm_take does, and reports if nothing fits. Writes to *count how many bytes were moved: 0 if there are
- * none to be written.
- * BM_SMALL: there are bytes, and none was moved, since the buffer is too small. *count is what bm_pending returns. */
-int32_t bm_taken(bm_connection *connection, uint8_t *room, size_t length, size_t *count);
-
 /* Returns whether all is done: the input has ended, every event is reported, every received request and notification
- * is answered, and every byte is taken. */
+ * is answered, and every byte is written. */
 bool bm_is_done(bm_connection *connection);
 
 /* Writes to *report what has happened so far. */
@@ -490,10 +424,10 @@ void bm_counts(bm_connection *connection, bm_report *report);
 
 /* Creates a judge, which has seen nothing yet, and writes it to *at, as in
  *     bm_judge_options options = {.size = sizeof options, .rules = BM_RULES_LSP};
- *     int32_t code = bm_judge_new(&options, &judge.at);
+ *     int32_t code = bm_judge_open(&options, &judge.at);
  * *at needn't be initialized, and is written only if the code is BM_OK. Free the judge by bm_judge_free.
  * BM_SETTINGS: the options aren't valid, or the library doesn't know their size. BM_NO_MEMORY. */
-int32_t bm_judge_new(const bm_judge_options *options, void **at);
+int32_t bm_judge_open(const bm_judge_options *options, void **at);
 
 /* Frees the judge and all that it holds. Make no call on it afterwards, nor on a copy of the struct. */
 void bm_judge_free(bm_judge judge);
@@ -524,7 +458,6 @@ static inline const char *bm_code_text(int32_t code)
         "the input is over",
         "not a JSON text, or params that are neither an array nor an object",
         "a method's name or a message that isn't UTF-8",
-        "the room is too small",
         "there are no such settings",
         "a batch of no calls",
         "no key is left",

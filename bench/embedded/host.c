@@ -10,13 +10,9 @@
 #include <unistd.h>
 
 #define TEXT(text) (const uint8_t *)(text), sizeof(text) - 1
-#define NONE (const uint8_t *)"", 0
-
-enum { PIECE = 65536 };
+#define NONE NULL, 0
 
 static bm_connection connection;
-static uint8_t *room;
-static size_t room_size;
 /* By the keys of our calls, the requests on whose behalf they are. */
 static uint64_t *asked;
 static size_t asked_size;
@@ -33,24 +29,18 @@ static void check(int32_t code)
         fail("the library refused a call");
 }
 
-static void *sized(void *old, size_t size)
-{
-    void *made = realloc(old, size);
-    if (!made)
-        fail("out of memory");
-    return made;
-}
-
 static void refuse(uint64_t number, int64_t code, const uint8_t *message, size_t length)
 {
     check(bm_fail(&connection, number, code, message, length, NONE));
 }
 
-/* The sum of an array of whole numbers, which has no blanks; false where it is none, or overflows. */
-static bool sum_of(const char *text, int64_t *sum)
+/* The sum of an array of whole numbers, which has no blanks; false where it is none, or overflows. (The array ends by
+ * its bracket, behind which no zero byte stands.) */
+static bool sum_of(const bm_event *event, int64_t *sum)
 {
+    const char *text = (const char *)event->text;
     *sum = 0;
-    if (*text++ != '[')
+    if (!event->text_len || *text++ != '[')
         return false;
     while (*text != ']') {
         char *end;
@@ -62,8 +52,7 @@ static bool sum_of(const char *text, int64_t *sum)
     return true;
 }
 
-/* Writes a number's digits at the end of the room, and says where they begin; printf would take a tenth of a request.
- */
+/* Writes a number's digits before the end, and says where they begin; printf would take a tenth of a request. */
 static uint8_t *digits(int64_t value, uint8_t *end)
 {
     uint64_t left = value < 0 ? 0 - (uint64_t)value : (uint64_t)value;
@@ -75,56 +64,62 @@ static uint8_t *digits(int64_t value, uint8_t *end)
     return end;
 }
 
-static void add(uint64_t number, const char *params)
+static void add(const bm_event *event)
 {
     int64_t sum;
     uint8_t result[24], *end = result + sizeof result;
-    if (!sum_of(params, &sum)) {
-        refuse(number, -32602, TEXT("Invalid params"));
+    if (!sum_of(event, &sum)) {
+        refuse(event->number, -32602, TEXT("Invalid params"));
         return;
     }
     const uint8_t *first = digits(sum, end);
-    check(bm_answer(&connection, number, first, (size_t)(end - first)));
+    check(bm_answer(&connection, event->number, first, (size_t)(end - first)));
 }
 
-static void ask(uint64_t number, const uint8_t *params, size_t length)
+static void ask(const bm_event *event)
 {
     uint64_t key;
-    check(bm_call(&connection, number, TEXT("confirm"), params, length, &key));
+    check(bm_call(&connection, event->number, TEXT("confirm"), event->text, event->text_len, &key));
     if (key >= asked_size) {
         asked_size = 2 * (size_t)key + 64;
-        asked = sized(asked, asked_size * sizeof *asked);
+        if (!(asked = realloc(asked, asked_size * sizeof *asked)))
+            fail("out of memory");
     }
-    asked[key] = number;
+    asked[key] = event->number;
 }
 
-static void called(const bm_event *event, const uint8_t *text)
+static bool is_method(const bm_event *event, const char *name)
+{
+    return event->name_len == strlen(name) && !memcmp(event->name, name, event->name_len);
+}
+
+static void called(const bm_event *event)
 {
     if (!(event->flags & BM_REQUEST))
-        check(bm_answer(&connection, event->number, NONE)); /* closes the notification */
-    else if (!strcmp((const char *)room, "add"))
-        add(event->number, (const char *)text);
-    else if (!strcmp((const char *)room, "ask"))
-        ask(event->number, text, event->text_len);
+        check(bm_close_call(&connection, event->number));
+    else if (is_method(event, "add"))
+        add(event);
+    else if (is_method(event, "ask"))
+        ask(event);
     else
         refuse(event->number, -32601, TEXT("Method not found"));
 }
 
-static void replied(const bm_event *event, const uint8_t *text)
+static void replied(const bm_event *event)
 {
+    uint64_t number = asked[event->key];
     if (event->flags & BM_ERROR)
-        check(bm_fail(&connection, asked[event->key], event->code, room, event->name_len, text, event->text_len));
+        check(bm_fail(&connection, number, event->code, event->name, event->name_len, event->text, event->text_len));
     else
-        check(bm_answer(&connection, asked[event->key], text, event->text_len));
+        check(bm_answer(&connection, number, event->text, event->text_len));
 }
 
 static void handle(const bm_event *event)
 {
-    const uint8_t *text = room + event->name_len + 1;
     if (event->kind == BM_CALL)
-        called(event, text);
+        called(event);
     else if (event->kind == BM_REPLIED)
-        replied(event, text);
+        replied(event);
     else if (event->kind == BM_UNANSWERED)
         refuse(asked[event->key], -32000, TEXT("No reply"));
     else if (event->kind == BM_CANCELLED)
@@ -134,38 +129,26 @@ static void handle(const bm_event *event)
 static void hear(void)
 {
     bm_event event;
-    for (;;) {
-        int32_t code = bm_next(&connection, &event, room, room_size);
-        if (code == BM_SMALL) {
-            room_size = event.name_len + event.text_len + event.id_len + 3;
-            room = sized(room, room_size);
-            continue;
-        }
-        check(code);
-        if (event.kind == BM_NONE)
-            return;
+    while (check(bm_next(&connection, &event)), event.kind != BM_NONE)
         handle(&event);
-    }
 }
 
 static void put(void)
 {
-    static uint8_t bytes[PIECE];
-    for (size_t count; (count = bm_take(&connection, bytes, sizeof bytes));)
-        for (size_t done = 0; done < count;) {
-            ssize_t more = write(STDOUT_FILENO, bytes + done, count - done);
-            if (more < 0)
-                fail("the output is gone");
-            done += (size_t)more;
-        }
+    const uint8_t *bytes;
+    for (size_t length; (length = bm_output(&connection, &bytes)) > 0;) {
+        ssize_t count = write(STDOUT_FILENO, bytes, length);
+        if (count < 0)
+            fail("the output is gone");
+        check(bm_written(&connection, (size_t)count));
+    }
 }
 
 int main(void)
 {
-    static uint8_t bytes[PIECE];
-    bm_settings settings = {.framing = BM_FRAMES, .takes_cancels = 1};
-    room = sized(NULL, room_size = PIECE);
-    check(bm_new(&settings, &connection.at));
+    static uint8_t bytes[65536];
+    bm_options options = {.size = sizeof options, .framing = BM_FRAMES, .cancels = BM_CANCELS_LSP};
+    check(bm_open(&options, &connection.at));
     while (!bm_is_done(&connection)) {
         ssize_t count = read(STDIN_FILENO, bytes, sizeof bytes);
         if (count > 0)
@@ -176,7 +159,6 @@ int main(void)
         put();
     }
     bm_free(connection);
-    free(room);
     free(asked);
     return 0;
 }

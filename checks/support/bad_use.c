@@ -4,6 +4,7 @@
  * and wrote the same. */
 #include "bullmyrtle.h"
 
+#include <stddef.h>
 #include <stdio.h>
 #include <stdlib.h>
 #include <string.h>
@@ -55,26 +56,33 @@ static void refused(int32_t wanted, int32_t got, int line)
 /* Makes a call on the one that is tried, which has to be refused. */
 #define REFUSED(wanted, name, ...) refused(wanted, name(&tried, __VA_ARGS__), __LINE__)
 
-static void begin(uint32_t framing, uint32_t takes_cancels, uint32_t content)
+enum { SIZE = sizeof(bm_options) };
+
+static void open_both(bm_options asked)
 {
-    bm_settings settings = {.framing = framing, .takes_cancels = takes_cancels, .content = content};
-    check(bm_new(&settings, &tried.at) == BM_OK && bm_new(&settings, &twin.at) == BM_OK, __LINE__, "bm_new");
+    asked.size = SIZE;
+    check(bm_open(&asked, &tried.at) == BM_OK && bm_open(&asked, &twin.at) == BM_OK, __LINE__, "bm_open");
 }
 
-static size_t next(bm_connection *connection, bm_event *event, uint8_t *room, size_t size)
+static void begin(uint32_t framing, uint32_t cancels, uint32_t content)
 {
-    check(bm_next(connection, event, room, size) == BM_OK, __LINE__, "bm_next");
-    return event->kind == BM_NONE ? 0 : event->name_len + event->text_len + event->id_len + 3;
+    open_both((bm_options){.framing = framing, .cancels = cancels, .content = content, .entries = UINT32_MAX});
+}
+
+static bool is_same(const uint8_t *one, size_t one_length, const uint8_t *two, size_t two_length)
+{
+    return one_length == two_length && (!one_length || !memcmp(one, two, one_length));
 }
 
 /* Has both tell their next event, which has to be the same, and gives its kind. */
 static uint32_t next_of_both(void)
 {
-    static uint8_t ours[4096], its[4096];
     bm_event one, two;
-    size_t length = next(&tried, &one, ours, sizeof ours);
-    check(next(&twin, &two, its, sizeof its) == length, __LINE__, "another event");
-    check(!memcmp(&one, &two, sizeof one) && !memcmp(ours, its, length), __LINE__, "another event");
+    check(bm_next(&tried, &one) == BM_OK && bm_next(&twin, &two) == BM_OK, __LINE__, "bm_next");
+    check(!memcmp(&one, &two, offsetof(bm_event, name)), __LINE__, "another event");
+    check(is_same(one.name, one.name_len, two.name, two.name_len), __LINE__, "another name");
+    check(is_same(one.text, one.text_len, two.text, two.text_len), __LINE__, "another text");
+    check(is_same(one.id, one.id_len, two.id, two.id_len), __LINE__, "another id");
     return one.kind;
 }
 
@@ -83,53 +91,36 @@ static void tell(uint32_t kind)
     check(next_of_both() == kind, __LINE__, "an event of another kind");
 }
 
-/* Takes what both have written, which has to be the same, and frees them. */
+/* All that is to be written, and that is said to be written then. */
+static uint8_t *all_of(bm_connection *connection, size_t *length)
+{
+    const uint8_t *bytes;
+    uint8_t *all = NULL;
+    *length = 0;
+    for (size_t lent; (lent = bm_output(connection, &bytes)); *length += lent) {
+        all = realloc(all, *length + lent);
+        check(all != NULL, __LINE__, "no memory");
+        memcpy(all + *length, bytes, lent);
+        check(bm_written(connection, lent) == BM_OK, __LINE__, "bm_written");
+    }
+    return all;
+}
+
+/* Looks whether both have the same to write, and frees them. */
 static void end_both(void)
 {
-    static uint8_t ours[1 << 16], its[1 << 16];
     while (next_of_both() != BM_NONE) {
     }
-    size_t count;
-    while ((count = bm_take(&tried, ours, sizeof ours))) {
-        check(bm_take(&twin, its, sizeof its) == count, __LINE__, "another output");
-        check(!memcmp(ours, its, count), __LINE__, "another output");
-    }
-    check(!bm_take(&twin, its, sizeof its), __LINE__, "another output");
+    size_t ours, its;
+    uint8_t *one = all_of(&tried, &ours), *two = all_of(&twin, &its);
+    check(is_same(one, ours, two, its), __LINE__, "another output");
+    free(one);
+    free(two);
     bm_free(tried);
     bm_free(twin);
 }
 
 /* ---- what is refused */
-
-static void settings(void)
-{
-    static const bm_settings wrong[] = {
-        {.framing = 3},
-        {.framing = UINT32_MAX},
-        {.order = 2},
-        {.takes_cancels = 2},
-        {.content = (1 << 24) + 1},
-        {.content = UINT32_MAX},
-        {.framing = 3, .order = 2, .takes_cancels = 2, .content = UINT32_MAX, .calls = UINT64_MAX},
-    };
-    static char untouched;
-    for (size_t i = 0; i < sizeof wrong / sizeof *wrong; i++) {
-        void *at = &untouched;
-        check(bm_new(&wrong[i], &at) == BM_SETTINGS && at == &untouched, __LINE__, "bm_new");
-        refusals[BM_SETTINGS]++;
-    }
-    static const bm_settings right[] = {
-        {.content = 1 << 24, .calls = UINT64_MAX},
-        {.framing = BM_CONTENTS, .order = BM_AS_CAME, .takes_cancels = 1, .content = 1, .calls = 1},
-    };
-    for (size_t i = 0; i < sizeof right / sizeof *right; i++) {
-        bm_connection made;
-        check(bm_new(&right[i], &made.at) == BM_OK, __LINE__, "bm_new");
-        bm_free(made);
-    }
-}
-
-enum { SIZE = sizeof(bm_options) };
 
 static void options(void)
 {
@@ -147,6 +138,8 @@ static void options(void)
         {.size = SIZE, .broken = UINT32_MAX},
         {.size = SIZE, .content = 1U << 31},
         {.size = SIZE, .content = UINT32_MAX},
+        {.size = SIZE, .framing = UINT32_MAX},
+        {.size = SIZE, .order = UINT32_MAX},
         {.size = SIZE, .null_params = 2},
         {.size = SIZE, .null_params = UINT32_MAX},
         {.size = SIZE, .framing = 3, .order = 2, .cancels = 3, .broken = 2, .content = UINT32_MAX, .null_params = 2},
@@ -188,7 +181,7 @@ static void options_of_a_judge(void)
     static char untouched;
     for (size_t i = 0; i < sizeof wrong / sizeof *wrong; i++) {
         void *at = &untouched;
-        check(bm_judge_new(&wrong[i], &at) == BM_SETTINGS && at == &untouched, __LINE__, "bm_judge_new");
+        check(bm_judge_open(&wrong[i], &at) == BM_SETTINGS && at == &untouched, __LINE__, "bm_judge_open");
         refusals[BM_SETTINGS]++;
     }
     static const bm_judge_options right[] = {
@@ -202,7 +195,7 @@ static void options_of_a_judge(void)
     };
     for (size_t i = 0; i < sizeof right / sizeof *right; i++) {
         bm_judge made;
-        check(bm_judge_new(&right[i], &made.at) == BM_OK, __LINE__, "bm_judge_new");
+        check(bm_judge_open(&right[i], &made.at) == BM_OK, __LINE__, "bm_judge_open");
         check(bm_judge_saw(&made, BM_SERVER + 1, NULL, 0) == BM_SETTINGS, __LINE__, "bm_judge_saw");
         check(bm_judge_ended(&made, BM_CLIENT, BM_READ_FAILED + 1) == BM_SETTINGS, __LINE__, "bm_judge_ended");
         check(bm_judge_saw(&made, BM_CLIENT, NULL, 0) == BM_OK, __LINE__, "bm_judge_saw");
@@ -210,12 +203,6 @@ static void options_of_a_judge(void)
         bm_judge_free(made);
         refusals[BM_SETTINGS] += 2;
     }
-}
-
-static void open_both(bm_options asked)
-{
-    asked.size = SIZE;
-    check(bm_open(&asked, &tried.at) == BM_OK && bm_open(&asked, &twin.at) == BM_OK, __LINE__, "bm_open");
 }
 
 /* With the cancels of MCP a call that is withdrawn waits no longer, and a cancelled request is closed. */
@@ -298,7 +285,7 @@ static size_t numbers(uint8_t *text, size_t count)
     return 2 * count + 1;
 }
 
-/* Where the options say nothing, a batch may have 100,000 entries; with bm_new, and where they say so, any number. */
+/* Where the options say nothing, a batch may have 100,000 entries, and where they say so any number. */
 static void usual_batches(void)
 {
     enum { MOST = 100000 };
@@ -313,9 +300,6 @@ static void usual_batches(void)
     bm_free(tried);
     bm_free(twin);
     open_both((bm_options){.framing = BM_CONTENTS, .entries = UINT32_MAX});
-    bm_free(twin);
-    bm_settings settings = {.framing = BM_CONTENTS};
-    check(bm_new(&settings, &twin.at) == BM_OK, __LINE__, "bm_new");
     BOTH(bm_feed, text, numbers(text, MOST + 1));
     tell(BM_NONE);
     counted(0, MOST + 1, 0);
@@ -351,12 +335,11 @@ static void null_params(void)
         BOTH(bm_feed,
              TEXT("{\"jsonrpc\":\"2.0\",\"method\":\"m\",\"params\":null}\n{\"jsonrpc\":\"2.0\",\"method\":\"m\"}\n"));
         for (uint32_t is_null = told, i = 0; i < 2; is_null = 0, i++) {
-            uint8_t room[16];
             bm_event event;
-            check(bm_next(&tried, &event, room, sizeof room) == BM_OK, __LINE__, "bm_next");
+            check(bm_next(&tried, &event) == BM_OK, __LINE__, "bm_next");
             check(event.kind == BM_CALL && event.flags == 0, __LINE__, "another event");
             check(event.text_len == (is_null ? 4 : 0), __LINE__, "other params");
-            check(!is_null || !memcmp(room + 2, "null", 5), __LINE__, "other params");
+            check(!is_null || !memcmp(event.text, "null", 4), __LINE__, "other params");
         }
         bm_free(tried);
         bm_free(twin);
@@ -378,7 +361,7 @@ static const uint8_t *bytes_of(const char *text)
 static void texts(void)
 {
     uint64_t key = 77;
-    begin(BM_LINES, 1, 0);
+    begin(BM_LINES, BM_CANCELS_LSP, 0);
     BOTH(bm_feed, TEXT("{\"jsonrpc\":\"2.0\",\"method\":\"m\",\"params\":[1],\"id\":7}\n"));
     tell(BM_CALL);
     for (size_t i = 0; i < NOT_TEXTS; i++) {
@@ -419,7 +402,7 @@ static void numbers_and_keys(void)
 {
     static const uint64_t wrong[] = {0, 3, UINT64_MAX};
     uint64_t key = 77, ours, its;
-    begin(BM_LINES, 1, 0);
+    begin(BM_LINES, BM_CANCELS_LSP, 0);
     BOTH(bm_feed, TEXT("{\"jsonrpc\":\"2.0\",\"method\":\"m\",\"id\":7}\n{\"jsonrpc\":\"2.0\",\"method\":\"n\"}\n"));
     tell(BM_CALL);
     tell(BM_CALL);
@@ -446,7 +429,7 @@ static void numbers_and_keys(void)
     check(key == 77, __LINE__, "a refused call has written a key");
     end_both();
     /* without cancels nothing is withdrawn */
-    begin(BM_LINES, 0, 0);
+    begin(BM_LINES, BM_CANCELS_NONE, 0);
     check(bm_call(&tried, 0, TEXT("a"), NONE, &key) == BM_OK && bm_call(&twin, 0, TEXT("a"), NONE, &key) == BM_OK,
           __LINE__, "bm_call");
     REFUSED(BM_NOT_WAITING, bm_withdraw, 1);
@@ -457,7 +440,7 @@ static void batches(void)
 {
     static const uint8_t bytes[] = "ab[1]";
     uint64_t first = 77;
-    begin(BM_LINES, 1, 0);
+    begin(BM_LINES, BM_CANCELS_LSP, 0);
     REFUSED(BM_EMPTY, bm_call_batch, 0, NONE, (size_t[]){0}, 0, &first);
     REFUSED(BM_SETTINGS, bm_call_batch, 0, bytes, 5, ((size_t[]){1, 0, 4}), 3, &first);
     REFUSED(BM_SETTINGS, bm_call_batch, 0, bytes, 5, ((size_t[]){1, 0, 1, 2}), 4, &first);
@@ -480,8 +463,7 @@ static void batches(void)
 static void lengths_of_0(void)
 {
     uint64_t key;
-    uint8_t room[8];
-    begin(BM_LINES, 1, 0);
+    begin(BM_LINES, BM_CANCELS_LSP, 0);
     BOTH(bm_feed, NONE);
     tell(BM_NONE);
     BOTH(bm_notify, NONE, NONE);
@@ -490,66 +472,112 @@ static void lengths_of_0(void)
     BOTH(bm_feed, TEXT("{\"jsonrpc\":\"2.0\",\"method\":\"\",\"id\":\"\"}\n"));
     tell(BM_CALL);
     BOTH(bm_fail, 1, 0, NONE, NONE);
-    check(bm_take(&tried, room, 0) == 0, __LINE__, "bm_take");
-    look_alike(__LINE__);
     end_both();
     /* a content of no bytes is one, which can't be read */
-    begin(BM_CONTENTS, 1, 0);
+    begin(BM_CONTENTS, BM_CANCELS_LSP, 0);
     BOTH(bm_feed, NONE);
     tell(BM_NONE);
     static const char answer[] =
         "{\"error\":{\"code\":-32700,\"message\":\"Parse error\"},\"id\":null,\"jsonrpc\":\"2.0\"}";
     check(bm_pending(&tried) == sizeof answer - 1, __LINE__, "no answer to a content of no bytes");
-    /* and a text is taken whole or not at all */
-    for (size_t size = 0; size <= sizeof room; size++)
-        check(bm_take(&tried, room, size) == 0, __LINE__, "bm_take");
-    look_alike(__LINE__);
     end_both();
 }
 
-/* Each room that is too small for an event is refused by both ways of asking, and nothing is written to it. */
-static void small_rooms(void)
+/* Where a length or a count is 0, the pointer may be NULL: it does what it does with another one. */
+#define WITH_NULL(null, other)                                                                                         \
+    do {                                                                                                               \
+        check((null) == (other), __LINE__, "NULL gives another code");                                                 \
+        look_alike(__LINE__);                                                                                          \
+    } while (0)
+
+#define NO_BYTES NULL, 0
+
+static void nulls(void)
 {
-    union {
-        uint64_t words[64];
-        uint8_t bytes[512];
-    } room;
-    bm_event event;
-    begin(BM_LINES, 1, 0);
-    BOTH(bm_feed, TEXT("{\"jsonrpc\":\"2.0\",\"method\":\"name\",\"params\":{\"a\":1},\"id\":\"x\"}\n"));
-    size_t needed = sizeof "name" + sizeof "{\"a\":1}" + sizeof "\"x\"";
-    for (size_t size = 0; size < needed; size++) {
-        memset(&room, 0xa5, sizeof room);
-        int32_t code = bm_next(&tried, &event, room.bytes, size);
-        check(event.kind == BM_CALL && event.flags == BM_REQUEST && event.number == 1, __LINE__, "the head");
-        check(event.name_len == 4 && event.text_len == 7 && event.id_len == 3, __LINE__, "the lengths");
-        for (size_t i = 0; i < sizeof room; i++)
-            check(room.bytes[i] == 0xa5, __LINE__, "a room that is too small has been written to");
-        /* (the content has come, on the one as on the other, once it was asked for) */
-        if (size == 0) {
-            bm_event same;
-            check(bm_next(&twin, &same, room.bytes, 0) == BM_SMALL, __LINE__, "bm_next");
-        }
-        refused(BM_SMALL, code, __LINE__);
+    uint64_t ours = 77, its = 77;
+    size_t refused_ours = 77, refused_its = 77;
+    bm_saying empty = {.kind = BM_SAY_NOTIFY}, same = empty;
+    static const char call[] = "{\"jsonrpc\":\"2.0\",\"method\":\"m\",\"id\":1}\n";
+    begin(BM_LINES, BM_CANCELS_LSP, 0);
+    for (int i = 0; i < 3; i++) {
+        BOTH(bm_feed, (const uint8_t *)call, sizeof call - 1);
+        tell(BM_CALL);
     }
-    for (size_t size = 0; size < sizeof event + needed; size++) {
-        size_t used = 0;
-        uint32_t count = 9;
-        memset(&room, 0xa5, sizeof room);
-        REFUSED(BM_SMALL, bm_next_all, room.bytes, size, &used, &count);
-        check(used == sizeof event + needed && count == 0, __LINE__, "what is needed");
-        for (size_t i = 0; i < sizeof room; i++)
-            check(room.bytes[i] == 0xa5, __LINE__, "a room that is too small has been written to");
-    }
+    BOTH(bm_feed, TEXT("{\"jsonrpc\":\"2.0\",\"method\":\"n\"}\n"));
     tell(BM_CALL);
+    WITH_NULL(bm_feed(&tried, NO_BYTES), bm_feed(&twin, NONE));
+    WITH_NULL(bm_call(&tried, 1, NO_BYTES, NO_BYTES, &ours), bm_call(&twin, 1, NONE, NONE, &its));
+    WITH_NULL(bm_call(&tried, 1, TEXT("m"), NO_BYTES, &ours), bm_call(&twin, 1, TEXT("m"), NONE, &its));
+    WITH_NULL(bm_call(&tried, 1, NO_BYTES, TEXT("[1]"), &ours), bm_call(&twin, 1, NONE, TEXT("[1]"), &its));
+    WITH_NULL(bm_call_batch(&tried, 0, NO_BYTES, ((size_t[]){0, 0}), 2, &ours),
+              bm_call_batch(&twin, 0, NONE, ((size_t[]){0, 0}), 2, &its));
+    WITH_NULL(bm_call_batch(&tried, 0, NO_BYTES, NULL, 0, &ours),
+              bm_call_batch(&twin, 0, NONE, (size_t[]){0}, 0, &its));
+    check(ours == its && ours == 4, __LINE__, "keys");
+    WITH_NULL(bm_notify(&tried, NO_BYTES, NO_BYTES), bm_notify(&twin, NONE, NONE));
+    WITH_NULL(bm_notify(&tried, TEXT("m"), NO_BYTES), bm_notify(&twin, TEXT("m"), NONE));
+    WITH_NULL(bm_answer(&tried, 1, NO_BYTES), bm_answer(&twin, 1, NONE));
+    WITH_NULL(bm_answer(&tried, 4, NO_BYTES), bm_answer(&twin, 4, NONE));
+    WITH_NULL(bm_fail(&tried, 1, 5, NO_BYTES, NO_BYTES), bm_fail(&twin, 1, 5, NONE, NONE));
+    WITH_NULL(bm_fail(&tried, 2, 5, TEXT("m"), NO_BYTES), bm_fail(&twin, 2, 5, TEXT("m"), NONE));
+    WITH_NULL(bm_fail(&tried, 3, 5, NO_BYTES, TEXT("1")), bm_fail(&twin, 3, 5, NONE, TEXT("1")));
+    WITH_NULL(bm_say_all(&tried, NULL, 0, NO_BYTES, &refused_ours), bm_say_all(&twin, &same, 0, NONE, &refused_its));
+    check(!refused_ours && !refused_its, __LINE__, "what is refused of nothing");
+    WITH_NULL(bm_say_all(&tried, &empty, 1, NO_BYTES, &refused_ours), bm_say_all(&twin, &same, 1, NONE, &refused_its));
+    check(!refused_ours && empty.said == BM_OK, __LINE__, "a notification of no bytes is sent");
+    WITH_NULL(bm_say_all(&tried, NULL, 0, TEXT("1"), &refused_ours),
+              bm_say_all(&twin, &same, 0, TEXT("1"), &refused_its));
+    end_both();
+    /* a content of no bytes is one */
+    begin(BM_CONTENTS, BM_CANCELS_NONE, 0);
+    WITH_NULL(bm_feed(&tried, NO_BYTES), bm_feed(&twin, NONE));
     tell(BM_NONE);
+    check(bm_pending(&tried) > 0, __LINE__, "no answer to a content of no bytes");
+    end_both();
+}
+
+/* How much of what is lent may be said to be written. */
+static void loans_of_output(uint32_t framing)
+{
+    const uint8_t *bytes, *again;
+    bool in_contents = framing == BM_CONTENTS;
+    begin(framing, BM_CANCELS_NONE, 0);
+    check(bm_output(&tried, &bytes) == 0 && bm_output(&twin, &bytes) == 0, __LINE__, "bm_output of nothing");
+    REFUSED(BM_SETTINGS, bm_written, 1);
+    BOTH(bm_written, 0);
+    BOTH(bm_notify, TEXT("one"), NONE);
+    BOTH(bm_notify, TEXT("two"), NONE);
+    /* it is to be written, and not lent yet */
+    REFUSED(BM_SETTINGS, bm_written, 1);
+    size_t lent = bm_output(&tried, &bytes);
+    check(0 < lent && lent <= bm_pending(&tried), __LINE__, "bm_output");
+    REFUSED(BM_SETTINGS, bm_written, lent + 1);
+    REFUSED(BM_SETTINGS, bm_written, bm_pending(&tried) + 1);
+    REFUSED(BM_SETTINGS, bm_written, SIZE_MAX);
+    check(bm_output(&tried, &again) == lent && again == bytes, __LINE__, "it lends other bytes");
+    if (in_contents) {
+        REFUSED(BM_SETTINGS, bm_written, 1);
+        REFUSED(BM_SETTINGS, bm_written, lent - 1);
+    }
+    check(bm_output(&twin, &again) == lent, __LINE__, "bm_output");
+    BOTH(bm_written, 0);
+    check(bm_output(&tried, &bytes) == lent && bm_output(&twin, &again) == lent, __LINE__, "nothing was written");
+    size_t part = in_contents ? lent : 1;
+    BOTH(bm_written, part);
+    /* what was written isn't written twice */
+    REFUSED(BM_SETTINGS, bm_written, lent);
+    if (!in_contents) {
+        check(bm_output(&tried, &bytes) == lent - 1 && bm_output(&twin, &again) == lent - 1, __LINE__, "the rest");
+        BOTH(bm_written, lent - 1);
+    }
+    REFUSED(BM_SETTINGS, bm_written, 1);
     end_both();
 }
 
 static void ends(void)
 {
     uint64_t key = 77;
-    begin(BM_FRAMES, 1, 100);
+    begin(BM_FRAMES, BM_CANCELS_LSP, 100);
     REFUSED(BM_SETTINGS, bm_end, 2);
     REFUSED(BM_SETTINGS, bm_end, UINT32_MAX);
     BOTH(bm_feed, TEXT("Content-Length: 37\r\n\r\n{\"jsonrpc\":\"2.0\",\"method\":\"m\",\"id\":7}"));
@@ -571,7 +599,7 @@ static void ends(void)
     BOTH(bm_answer, 1, TEXT("1"));
     end_both();
     /* after a fault of the input bytes are taken and ignored, and it may be ended once */
-    begin(BM_FRAMES, 1, 100);
+    begin(BM_FRAMES, BM_CANCELS_LSP, 100);
     BOTH(bm_feed, TEXT("Content-Length: 101\r\n\r\n"));
     tell(BM_INPUT_OVER);
     BOTH(bm_feed, TEXT("Content-Length: 2\r\n\r\n{}"));
@@ -583,15 +611,15 @@ static void ends(void)
 
 /* ---- several things in one call */
 
-/* Says the same on both, and gives what came of it on the one that is tried. */
-static bm_said say_both(bm_saying *sayings, size_t count, const uint8_t *bytes, size_t length)
+/* Says the same on both, and gives how many were refused. */
+static size_t say_both(bm_saying *sayings, size_t count, const uint8_t *bytes, size_t length)
 {
-    bm_said ours, its;
+    size_t ours, its;
     bm_saying again[8];
     memcpy(again, sayings, count * sizeof *again);
-    check(bm_say_all(&tried, sayings, count, bytes, length, NULL, 0, &ours) == BM_OK, __LINE__, "bm_say_all");
-    check(bm_say_all(&twin, again, count, bytes, length, NULL, 0, &its) == BM_OK, __LINE__, "bm_say_all");
-    check(!memcmp(again, sayings, count * sizeof *again) && !memcmp(&ours, &its, sizeof ours), __LINE__, "others");
+    check(bm_say_all(&tried, sayings, count, bytes, length, &ours) == BM_OK, __LINE__, "bm_say_all");
+    check(bm_say_all(&twin, again, count, bytes, length, &its) == BM_OK, __LINE__, "bm_say_all");
+    check(!memcmp(again, sayings, count * sizeof *again) && ours == its, __LINE__, "others");
     return ours;
 }
 
@@ -599,11 +627,9 @@ static bm_said say_both(bm_saying *sayings, size_t count, const uint8_t *bytes, 
 static void refused_saying(int32_t wanted, bm_saying it, const char *bytes, int line)
 {
     bm_saying before = it;
-    bm_said said;
-    size_t pending = bm_pending(&tried);
-    check(bm_say_all(&tried, &it, 1, (const uint8_t *)bytes, strlen(bytes), NULL, 0, &said) == BM_OK, line,
-          "bm_say_all");
-    check(said.refused == 1 && said.taken == 0 && said.pending == pending, line, "what came of it");
+    size_t said, pending = bm_pending(&tried);
+    check(bm_say_all(&tried, &it, 1, (const uint8_t *)bytes, strlen(bytes), &said) == BM_OK, line, "bm_say_all");
+    check(said == 1 && bm_pending(&tried) == pending, line, "what came of it");
     before.said = it.said;
     check(!memcmp(&it, &before, sizeof it), line, "a refused saying has written more than its code");
     refused(wanted, it.said, line);
@@ -619,16 +645,15 @@ static void wrong_lengths(void)
         bm_saying all[] = {{.kind = BM_SAY_NOTIFY, .name_len = wrong[i].name_len, .text_len = wrong[i].text_len},
                            {.kind = 9, .name_len = wrong[i].other_len}};
         bm_saying before[] = {all[0], all[1]};
-        bm_said said = {7, 7, 7}, said_before = said;
-        REFUSED(BM_SETTINGS, bm_say_all, all, 2, TEXT("m9"), NULL, 0, &said);
-        check(!memcmp(all, before, sizeof all) && !memcmp(&said, &said_before, sizeof said), __LINE__,
-              "it has written");
+        size_t said = 77;
+        REFUSED(BM_SETTINGS, bm_say_all, all, 2, TEXT("m9"), &said);
+        check(!memcmp(all, before, sizeof all) && said == 77, __LINE__, "it has written");
     }
 }
 
 static void sayings(void)
 {
-    begin(BM_LINES, 1, 0);
+    begin(BM_LINES, BM_CANCELS_LSP, 0);
     BOTH(bm_feed, TEXT("[{\"jsonrpc\":\"2.0\",\"method\":\"m\",\"id\":1},{\"jsonrpc\":\"2.0\",\"method\":\"n\"}]\n"));
     tell(BM_CALL);
     tell(BM_CALL);
@@ -650,8 +675,9 @@ static void sayings(void)
     bm_saying few[] = {{.kind = BM_SAY_BATCH, .calls = 3, .key = 77},
                        {.kind = BM_SAY_NOTIFY, .name_len = 1},
                        {.kind = BM_SAY_NOTIFY, .name_len = 1}};
-    bm_said said = say_both(few, 3, TEXT("mn"));
-    check(few[0].said == BM_SETTINGS && few[0].key == 77 && said.refused == 1 && !said.pending, __LINE__, "few calls");
+    size_t said = say_both(few, 3, TEXT("mn"));
+    check(few[0].said == BM_SETTINGS && few[0].key == 77 && said == 1, __LINE__, "few calls");
+    check(!bm_pending(&tried), __LINE__, "few calls");
     bm_saying most = {.kind = BM_SAY_BATCH, .calls = SIZE_MAX};
     refused_saying(BM_SETTINGS, most, "", __LINE__);
     REFUSED(BM_NOT_JSON, bm_close_call, 1);
@@ -666,7 +692,7 @@ static void sayings(void)
                        {.name_len = 1},
                        {.kind = BM_SAY_ANSWER, .number = 1, .text_len = 1}};
     said = say_both(all, 7, TEXT("ab[]cd7"));
-    check(said.refused == 1 && all[1].said == BM_NOT_OPEN && all[0].said == BM_OK, __LINE__, "codes");
+    check(said == 1 && all[1].said == BM_NOT_OPEN && all[0].said == BM_OK, __LINE__, "codes");
     check(all[2].key == 1 && all[3].key == 2 && all[6].said == BM_OK, __LINE__, "keys");
     bm_report now;
     bm_counts(&tried, &now);
@@ -674,62 +700,9 @@ static void sayings(void)
     end_both();
 }
 
-/* What is told and taken in a room that is too small. */
-static void small_rooms_together(void)
-{
-    union {
-        uint64_t words[64];
-        uint8_t bytes[512];
-    } room;
-    bm_told told, before;
-    begin(BM_CONTENTS, 1, 0);
-    static const char call[] = "{\"jsonrpc\":\"2.0\",\"method\":\"name\",\"id\":7}";
-    size_t needed = sizeof(bm_event) + sizeof "name" + sizeof "" + sizeof "7";
-    check(bm_fed(&tried, (const uint8_t *)call, sizeof call - 1, NULL, 0, 1, &told) == BM_OK, __LINE__, "bm_fed");
-    check(!told.count && told.stopped == BM_STOP_ROOM && told.needed == needed && !told.used, __LINE__, "bm_fed");
-    for (size_t size = 0; size < needed; size++) {
-        memset(&room, 0xa5, sizeof room);
-        bm_tell(&tried, room.bytes, size, 0, &told);
-        check(!told.count && told.stopped == BM_STOP_ROOM && told.needed == needed && !told.used, __LINE__, "bm_tell");
-        for (size_t i = 0; i < sizeof room; i++)
-            check(room.bytes[i] == 0xa5, __LINE__, "a room that is too small has been written to");
-    }
-    bm_tell(&tried, room.bytes, needed, 1, &told);
-    check(told.count == 1 && told.stopped == BM_STOP_MOST && told.used == needed && !told.needed, __LINE__, "bm_tell");
-    bm_tell(&tried, NULL, 0, 1, &told);
-    check(!told.count && told.stopped == BM_STOP_NONE && !told.used && !told.needed, __LINE__, "bm_tell");
-    /* the twin is fed the same */
-    bm_event event;
-    check(bm_feed(&twin, (const uint8_t *)call, sizeof call - 1) == BM_OK, __LINE__, "bm_feed");
-    next(&twin, &event, room.bytes, sizeof room);
-    look_alike(__LINE__);
-    size_t count = 77;
-    check(bm_taken(&tried, NULL, 0, &count) == BM_OK && !count, __LINE__, "nothing is to be taken");
-    BOTH(bm_answer, 1, TEXT("1"));
-    size_t pending = bm_pending(&tried);
-    for (size_t size = 0; size < pending; size++) {
-        memset(&room, 0xa5, sizeof room);
-        REFUSED(BM_SMALL, bm_taken, room.bytes, size, &count);
-        check(count == pending && room.bytes[0] == 0xa5, __LINE__, "a room that is too small");
-    }
-    check(bm_taken(&tried, room.bytes, pending, &count) == BM_OK && count == pending, __LINE__, "bm_taken");
-    check(bm_take(&twin, room.bytes, pending) == pending, __LINE__, "bm_take");
-    look_alike(__LINE__);
-    BOTH(bm_end, BM_CLOSED);
-    memset(&told, 0xa5, sizeof told);
-    before = told;
-    REFUSED(BM_OVER, bm_fed, TEXT("{}"), room.bytes, sizeof room, 0, &told);
-    check(!memcmp(&told, &before, sizeof told), __LINE__, "a refused call has told something");
-    end_both();
-}
-
 int main(void)
 {
-    check(bm_has(BM_HAS_TOGETHER) && bm_has(BM_HAS_OPEN) && bm_has(BM_HAS_JUDGE), __LINE__, "bm_has");
-    check(!bm_has(0) && !bm_has(4) && !bm_has(UINT32_MAX), __LINE__, "bm_has");
     sayings();
-    small_rooms_together();
-    settings();
     options();
     options_of_a_judge();
     cancels_of_mcp();
@@ -742,7 +715,9 @@ int main(void)
     numbers_and_keys();
     batches();
     lengths_of_0();
-    small_rooms();
+    nulls();
+    for (uint32_t framing = BM_FRAMES; framing <= BM_CONTENTS; framing++)
+        loans_of_output(framing);
     ends();
     for (int code = BM_NOT_OPEN; code < BM_FULL; code++)
         printf("code %d: %lu refusals\n", code, refusals[code]);

@@ -18,22 +18,19 @@ IN_C = {
     "Handle": ["bm_connection"],
     "&mut Handle": ["bm_connection *"],
     "*mut Handle": ["void **"],
-    "&Settings": ["const bm_settings *"],
     "&Options": ["const bm_options *"],
-    "&mut EventHead": ["bm_event *"],
+    "&mut LentEvent": ["bm_event *"],
     "&mut Report": ["bm_report *"],
-    "&mut Told": ["bm_told *"],
     "&mut [Saying]": ["bm_saying *", "size_t"],
-    "&mut AllSaid": ["bm_said *"],
     "JudgeHandle": ["bm_judge"],
     "&mut JudgeHandle": ["bm_judge *"],
     "*mut JudgeHandle": ["void **"],
     "&JudgeOptions": ["const bm_judge_options *"],
     "&mut [HostFinding]": ["bm_finding *", "size_t"],
     "&[u8]": ["const uint8_t *", "size_t"],
-    "&mut [u8]": ["uint8_t *", "size_t"],
+    "&mut *const u8": ["const uint8_t **"],
+    "*const u8": ["const uint8_t *"],
     "&[usize]": ["const size_t *", "size_t"],
-    "&mut u32": ["uint32_t *"],
     "&mut u64": ["uint64_t *"],
     "&mut usize": ["size_t *"],
     "u32": ["uint32_t"],
@@ -47,23 +44,19 @@ IN_C = {
 IN_RUST = {
     "bm_connection": "bm_connection",
     "*mut bm_connection": "bm_connection *",
-    "*const bm_settings": "const bm_settings *",
     "*const bm_options": "const bm_options *",
     "*mut bm_event": "bm_event *",
     "*mut bm_report": "bm_report *",
-    "*mut bm_told": "bm_told *",
     "*mut bm_saying": "bm_saying *",
-    "*mut bm_said": "bm_said *",
     "bm_judge": "bm_judge",
     "*mut bm_judge": "bm_judge *",
     "*const bm_judge_options": "const bm_judge_options *",
     "*mut bm_finding": "bm_finding *",
     "*mut *mut c_void": "void **",
     "*const u8": "const uint8_t *",
-    "*mut u8": "uint8_t *",
+    "*mut *const u8": "const uint8_t **",
     "*const usize": "const size_t *",
     "*mut usize": "size_t *",
-    "*mut u32": "uint32_t *",
     "*mut u64": "uint64_t *",
     "u32": "uint32_t",
     "u64": "uint64_t",
@@ -74,67 +67,54 @@ IN_RUST = {
 }
 # The structs: by their names in C, the file and the name of the struct that the exports have for each.
 STRUCTS = {
-    "bm_settings": ("bullmyrtle/src/settings.rt", "Settings"),
     "bm_options": ("bullmyrtle/src/settings.rt", "Options"),
-    "bm_event": ("host_calls/src/head.rt", "EventHead"),
+    "bm_event": ("host_calls/src/head.rt", "LentEvent"),
     "bm_report": ("bullmyrtle/src/report.rt", "Report"),
-    "bm_told": ("host_calls/src/telling.rt", "Told"),
     "bm_saying": ("host_calls/src/sayings.rt", "Saying"),
-    "bm_said": ("host_calls/src/sayings.rt", "AllSaid"),
     "bm_judge_options": ("judge_calls/src/options.rt", "JudgeOptions"),
     "bm_finding": ("judge_calls/src/finding.rt", "HostFinding"),
 }
-# What hosts that were built with the first header rely on: its calls, the sizes of its structs and the places of their fields, and the values of
-# its names. They stay.
-FIRST_VERSION, NEXT_VERSION = "BULLMYRTLE_1", "BULLMYRTLE_2"
-FIRST_CALLS = {
-    *(
-        "bm_interface",
-        "bm_new",
-        "bm_free",
-        "bm_feed",
-        "bm_end",
-        "bm_next",
-        "bm_next_all",
-        "bm_call",
-        "bm_call_batch",
-        "bm_notify",
-        "bm_withdraw",
-    ),
-    *("bm_answer", "bm_fail", "bm_cancel", "bm_pending", "bm_take", "bm_is_done", "bm_counts"),
-}
-FIRST_LAYOUTS = {
-    "bm_settings": [24, 0, 4, 8, 12, 16],
-    "bm_event": [56, 0, 4, 8, 16, 24, 32, 40, 48],
+# The structs that stand in another by themselves, whose fields lie there.
+WITHIN = {"EventHead": ("host_calls/src/head.rt", "EventHead")}
+# What hosts rely on that were built for this interface: the sizes of its structs and the places of their fields, and
+# the values of its names. They stay as long as BM_INTERFACE does.
+INTERFACE, VERSION = 1, "BULLMYRTLE_1"
+LAYOUTS = {
+    "bm_options": [40, 0, 4, 8, 12, 16, 20, 24, 32, 36],
+    "bm_event": [80, 0, 4, 8, 16, 24, 32, 40, 48, 56, 64, 72],
     "bm_report": [72, 0, 8, 16, 24, 32, 40, 48, 56, 64],
+    "bm_saying": [56, 0, 4, 8, 16, 24, 32, 40, 48],
+    "bm_judge_options": [20, 0, 4, 8, 12, 16],
+    "bm_finding": [40, 0, 4, 8, 12, 16, 24, 32],
 }
-FIRST_NAMES = (
-    [
-        "BM_OK",
-        "BM_NO_MEMORY",
-        "BM_NOT_OPEN",
-        "BM_NOT_WAITING",
-        "BM_OVER",
-        "BM_NOT_JSON",
-        "BM_NOT_TEXT",
-        "BM_SMALL",
-        "BM_SETTINGS",
-        "BM_EMPTY",
-        "BM_FULL",
-    ],
-    ["BM_FRAMES", "BM_LINES", "BM_CONTENTS"],
-    ["BM_AS_ANSWERED", "BM_AS_CAME"],
-    ["BM_CLOSED", "BM_READ_FAILED"],
-    ["BM_NONE", "BM_CALL", "BM_CANCELLED", "BM_REPLIED", "BM_UNANSWERED", "BM_INPUT_OVER"],
-    [
-        "BM_OVER_CLEAN",
-        "BM_OVER_BAD_HEAD",
-        "BM_OVER_BAD_LENGTH",
-        "BM_OVER_TWO_LENGTHS",
-        "BM_OVER_TOO_LARGE",
-        "BM_OVER_NO_LENGTH",
-    ]
-    + ["BM_OVER_HEAD_TOO_LONG", "BM_OVER_TRUNCATED", "BM_OVER_READ", "BM_OVER_CALLS"],
+CODES = (
+    "BM_OK BM_NO_MEMORY BM_NOT_OPEN BM_NOT_WAITING BM_OVER BM_NOT_JSON BM_NOT_TEXT BM_SETTINGS BM_EMPTY BM_FULL".split()
+)
+ENDS = (
+    "BM_OVER_CLEAN BM_OVER_BAD_HEAD BM_OVER_BAD_LENGTH BM_OVER_TWO_LENGTHS BM_OVER_TOO_LARGE BM_OVER_NO_LENGTH "
+    "BM_OVER_HEAD_TOO_LONG BM_OVER_TRUNCATED BM_OVER_READ BM_OVER_CALLS"
+).split()
+NAMES = (
+    CODES,
+    "BM_FRAMES BM_LINES BM_CONTENTS".split(),
+    "BM_AS_ANSWERED BM_AS_CAME".split(),
+    "BM_CANCELS_NONE BM_CANCELS_LSP BM_CANCELS_MCP".split(),
+    "BM_CLOSED BM_READ_FAILED".split(),
+    "BM_NONE BM_CALL BM_CANCELLED BM_REPLIED BM_UNANSWERED BM_INPUT_OVER BM_BROKEN".split(),
+    "BM_UNREADABLE BM_INVALID".split(),
+    ENDS,
+    "BM_RULES_JSONRPC BM_RULES_LSP BM_RULES_MCP BM_RULES_MCP_2025_03_26".split(),
+    "BM_CLIENT BM_SERVER".split(),
+    "BM_MUST BM_SHOULD BM_NOTE".split(),
+    "BM_WHOSE_CONNECTION BM_WHOSE_HOST BM_WHOSE_NOBODY".split(),
+)
+# The same of the names whose values begin with 1.
+NAMES_FROM_1 = (
+    ["BM_REQUEST"],
+    ["BM_ERROR"],
+    (
+        "BM_SAY_ANSWER BM_SAY_FAIL BM_SAY_CLOSE BM_SAY_CALL BM_SAY_BATCH BM_SAY_NOTIFY BM_SAY_WITHDRAW BM_SAY_CANCEL"
+    ).split(),
 )
 # What the static library defines beside the calls, by which it takes memory (docs/embedding.md names them).
 OF_THE_HEAP = {"rattle_alloc", "rattle_dealloc", "rattle_realloc"}
@@ -146,6 +126,7 @@ WIDTHS = {
     "uint64_t": ctypes.c_uint64,
     "int64_t": ctypes.c_int64,
     "size_t": ctypes.c_size_t,
+    "const uint8_t *": ctypes.c_void_p,
 }
 
 
@@ -177,10 +158,12 @@ def in_map() -> list[str]:
     return sorted(re.findall(r"^ +(bm_\w+);$", text_of(MAP), re.M))
 
 
-def versions_in_map() -> dict[str, list[str]]:
-    """The calls of each version."""
-    found = re.findall(r"^(BULLMYRTLE_\d+) \{\nglobal:\n(.*?)^(?:local:|\})", text_of(MAP), re.M | re.S)
-    return {version: re.findall(r"^ +(bm_\w+);$", lines, re.M) for version, lines in found}
+def versions_in_map() -> list[str]:
+    return re.findall(r"^(\w+) \{\nglobal:$", text_of(MAP), re.M)
+
+
+def interface_in_header() -> int:
+    return int(re.search(r"^#define BM_INTERFACE (\d+)$", text_of(HEADER), re.M).group(1))
 
 
 def names_in_header() -> dict[str, int]:
@@ -215,22 +198,28 @@ def in_rust() -> dict[str, tuple[str, list[str]]]:
 
 def fields_in_rust(name: str) -> list[tuple[str, str]]:
     body = re.search(r"#\[repr\(C\)\]\n(?:#.*\n)*pub struct " + name + r" \{([^}]*)\}", text_of(RUST)).group(1)
-    return [(IN_RUST[kind], field) for field, kind in re.findall(r"pub (\w+): (\w+),", body)]
+    return [(IN_RUST[kind], field) for field, kind in re.findall(r"pub (\w+): ([^,]+),", body)]
 
 
 def fields_in_header(name: str) -> list[tuple[str, str]]:
     """The fields of a struct: their types and names."""
     body = re.search(r"typedef struct \{([^}]*)\} " + name + ";", without_comments(text_of(HEADER))).group(1)
-    return re.findall(r"(\w+) (\w+);", body)
+    return [(type_in_c(it), it.split()[-1].lstrip("*")) for it in body.split(";") if it.strip()]
 
 
 def fields_in_exports(name: str) -> list[tuple[str, str]]:
-    file, kind = STRUCTS[name]
+    return fields_of_export(*STRUCTS[name])
+
+
+def fields_of_export(file: str, kind: str) -> list[tuple[str, str]]:
     before, body = re.search(
         r"(#\[repr\(C\)\]\n(?:#.*\n)*)pub struct " + kind + r" \{([^}]*)\}", text_of(os.path.join(CRATES, file))
     ).groups()
     assert before
-    return [(IN_C[kind][0], field) for field, kind in re.findall(r"pub (\w+): (\w+),", body)]
+    made = []
+    for field, its in re.findall(r"pub (\w+): ([^,]+),", body):
+        made += fields_of_export(*WITHIN[its]) if its in WITHIN else [(IN_C[its][0], field)]
+    return made
 
 
 def laid_out(name: str) -> list[int]:

@@ -272,14 +272,3 @@ def all_rows() -> list[Row]:
 
 def rows_by_hand() -> list[Row]:
     return [row for file in sorted(glob.glob(os.path.join(FOLDER, "*.txt"))) for row in rows_of(file)]
-
-
-# Lines whose events are of each kind: calls, replies with and without data, a cancel that hits, texts that need
-# escapes, and broken lines.
-EVENTS = (
-    b'{"jsonrpc":"2.0","method":"m","params":["a",{"b":1.50}],"id":"i\\u0001\\"d"}\n'
-    b'{"jsonrpc":"2.0","method":"note"}\n5\nbroken\n'
-    b'[{"jsonrpc":"2.0","method":"","id":null},{"jsonrpc":"2.0","method":"$/cancelRequest","params":{"id":null}}]\n'
-    b'{"jsonrpc":"2.0","id":1,"error":{"code":-9223372036854775808,"message":"gone","data":[null]}}\n'
-    b'{"jsonrpc":"2.0","method":"' + b"x" * 300 + b'","id":-7}\n'
-)

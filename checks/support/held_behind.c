@@ -32,8 +32,6 @@ enum { WARM = 20000, WARM_BYTES = 200000, PIECE = 512, TEXT = 256 };
 static bm_connection connection;
 static bm_judge judge;
 static bool is_judged, in_lines;
-static uint8_t *room;
-static size_t room_length;
 
 static void check(bool is_so, const char *what)
 {
@@ -95,14 +93,15 @@ static void says_long(unsigned side, const char *before, const char *piece, size
 static bm_event next_event(uint32_t kind)
 {
     bm_event event;
-    check(bm_next(&connection, &event, room, room_length) == BM_OK && event.kind == kind, "the event that is due");
+    check(bm_next(&connection, &event) == BM_OK && event.kind == kind, "the event that is due");
     return event;
 }
 
 static void take(void)
 {
-    while (bm_take(&connection, room, room_length))
-        ;
+    const uint8_t *bytes;
+    for (size_t length; (length = bm_output(&connection, &bytes));)
+        check(bm_written(&connection, length) == BM_OK, "bm_written");
 }
 
 /* How many findings are told. */
@@ -257,7 +256,7 @@ static void begin(void)
 {
     bm_options options = {.size = sizeof options, .framing = in_lines ? BM_LINES : BM_FRAMES};
     bm_judge_options rules = {.size = sizeof rules, .framing = options.framing};
-    int32_t code = is_judged ? bm_judge_new(&rules, &judge.at) : bm_open(&options, &connection.at);
+    int32_t code = is_judged ? bm_judge_open(&rules, &judge.at) : bm_open(&options, &connection.at);
     check(code == BM_OK, "it begins");
 }
 
@@ -268,9 +267,6 @@ int main(int words, char **word)
     const char *kind = word[1] + (is_judged ? 6 : 0);
     in_lines = !strcmp(kind, "line") || !strncmp(kind, "findings", 8);
     size_t size = strtoull(word[2], NULL, 10);
-    room_length = size + WARM_BYTES + TEXT;
-    room = malloc(room_length);
-    check(room, "memory");
     /* (a block of its own pages, made shorter, has whole pages) */
     mallopt(M_MMAP_MAX, 0);
     begin();

@@ -18,10 +18,9 @@
 #include <string.h>
 #include <unistd.h>
 
-enum { PIECE = 512, PAGE = 32, LONG = 1000, TEXT = 256, ROOM = 1 << 16 };
+enum { PIECE = 512, PAGE = 32, LONG = 1000, TEXT = 256 };
 
 static bm_connection connection;
-static uint8_t room[ROOM];
 
 static void check(bool is_so, const char *what)
 {
@@ -74,14 +73,15 @@ static void one_content(const char *kind, size_t length)
 static void told(uint64_t number)
 {
     bm_event event;
-    int32_t code = bm_next(&connection, &event, room, ROOM);
+    int32_t code = bm_next(&connection, &event);
     check(code == BM_OK && event.kind == BM_CALL && event.number == number, "the call that is due");
 }
 
 static void take(void)
 {
-    while (bm_take(&connection, room, ROOM))
-        ;
+    const uint8_t *bytes;
+    for (size_t length; (length = bm_output(&connection, &bytes));)
+        check(bm_written(&connection, length) == BM_OK, "bm_written");
 }
 
 static void requests(uint64_t count)

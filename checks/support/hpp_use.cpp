@@ -1,9 +1,10 @@
-// What bullmyrtle.hpp adds to bullmyrtle.h: codes as exceptions, that change nothing; views of texts of any length;
+// What bullmyrtle.hpp adds to bullmyrtle.h: codes as exceptions, that change nothing; views of lent texts and output;
 // moves; and that a connection is freed once. Built with --wrap=malloc --wrap=realloc, by which memory is refused.
 #include "bullmyrtle.hpp"
 
 #include <cstdio>
 #include <cstdlib>
+#include <string>
 #include <type_traits>
 
 using bullmyrtle::connection;
@@ -60,9 +61,22 @@ static void check_codes()
     check(code_of([&] { it.notify("a", "5"); }) == BM_NOT_JSON, "params that are a number");
     check(code_of([&] { it.call("\xff"); }) == BM_NOT_TEXT, "a method that isn't UTF-8");
     check(code_of([&] { it.feed({}); }) == BM_OK, "an empty view");
+    check(code_of([&] { it.written(1); }) == BM_SETTINGS, "a length that isn't lent");
     check(it.pending() == 0 && it.counts().own_calls == 0, "what was refused has changed something");
     it.end();
     check(code_of([&] { it.feed("x"); }) == BM_OVER, "input behind the end");
+}
+
+// All that is to be written, in pieces of at most so many bytes.
+static std::string written(connection &it, std::size_t most)
+{
+    std::string all;
+    while (!it.output().empty()) {
+        const auto piece = it.output().substr(0, most);
+        all += piece;
+        it.written(piece.size());
+    }
+    return all;
 }
 
 static void check_texts()
@@ -73,14 +87,18 @@ static void check_texts()
     auto told = it.next();
     check(told && told->kind == BM_CALL && told->is_request(), "a request is told");
     check(told->name == name && told->text == params && told->id == "\"i\"", "its texts");
-    it.fail(told->number, -5, "m", "{}");
+    const auto view = told->text;
+    it.fail(told->number, -5, told->name.substr(0, 1), told->text);
+    it.notify(told->name, told->text);
+    check(told->text.data() == view.data() && told->name == name && view == params,
+          "its texts hold while it is answered");
     check(!it.next(), "nothing else is told");
-    std::string output = "before ";
-    it.take(output, 3);
-    check(output.size() == 10, "as many bytes as are asked for");
-    it.take(output);
-    check(output == "before {\"error\":{\"code\":-5,\"data\":{},\"message\":\"m\"},\"id\":\"i\",\"jsonrpc\":\"2.0\"}\n",
-          "all bytes");
+    check(written(it, 3) ==
+              "{\"error\":{\"code\":-5,\"data\":" + params +
+                  ",\"message\":\"m\"},\"id\":\"i\",\"jsonrpc\":\"2.0\"}\n{\"jsonrpc\":\"2.0\",\"method\":\"" + name +
+                  "\",\"params\":" + params + "}\n",
+          "all bytes, in pieces");
+    check(it.output().empty() && it.pending() == 0, "nothing is left");
     const auto key = it.call("a", "[]");
     it.feed("{\"jsonrpc\":\"2.0\",\"id\":1,\"result\":7}\n");
     told = it.next();
@@ -93,8 +111,10 @@ static void check_moves()
     static_assert(!std::is_copy_constructible_v<connection> && std::is_nothrow_move_constructible_v<connection>);
     connection one = lines();
     one.notify("a");
+    const auto lent = one.output();
     connection other = std::move(one);
-    check(other.pending() > 0, "a connection that was moved has what it had");
+    check(other.output().data() == lent.data() && lent == "{\"jsonrpc\":\"2.0\",\"method\":\"a\"}\n",
+          "a connection that was moved has what it had, and lends it");
     one = lines();
     std::swap(one, other);
     check(one.pending() > 0 && other.pending() == 0, "two that were swapped");

@@ -3,7 +3,7 @@
  * Has one batch of so many bytes come, in lines or in frames, of the shortest invalid entries, `[1,1,..]`: each is
  * answered with 80 bytes. With `limited` a batch may have 100,000 entries, and this one gets one answer. Prints the
  * length of the batch, how many bytes more than before were resident at most until its answer was written, and how many
- * more the library holds once it is taken. */
+ * more the library holds once it is written. */
 #include "bullmyrtle.h"
 
 #include <malloc.h>
@@ -55,7 +55,7 @@ static uint8_t *batch_of(size_t most, size_t *length)
 
 int main(int count, char **words)
 {
-    static uint8_t room[1 << 16];
+    const uint8_t *bytes;
     check(count >= 2 && count <= 4, "usage: invalid_batch BYTES [frames] [limited]");
     bool in_frames = count > 2 && !strcmp(words[2], "frames");
     bool is_limited = count > 2 && !strcmp(words[count - 1], "limited");
@@ -75,11 +75,11 @@ int main(int count, char **words)
         check(bm_feed(&connection, (const uint8_t *)"\n", 1) == BM_OK, "bm_feed");
     free(batch);
     bm_event event;
-    check(bm_next(&connection, &event, room, sizeof room) == BM_OK && event.kind == BM_NONE, "no event");
+    check(bm_next(&connection, &event) == BM_OK && event.kind == BM_NONE, "no event");
     uint64_t most = most_resident() - before;
     uint64_t written = 0;
-    for (size_t taken; (taken = bm_take(&connection, room, sizeof room));)
-        written += taken;
+    for (size_t lent; (lent = bm_output(&connection, &bytes)); written += lent)
+        check(bm_written(&connection, lent) == BM_OK, "bm_written");
     check(is_limited ? written < 200 : written / 40 >= length - 2, "an answer for each entry, or one");
     printf("%zu %llu %llu\n", length, (unsigned long long)most, (unsigned long long)(held() - held_before));
     bm_free(connection);

@@ -62,13 +62,14 @@ static size_t answer(char *frame, unsigned number)
 static void by_connection(unsigned number)
 {
     char asked[ROOM], wanted[ROOM];
-    uint8_t room[ROOM];
+    const uint8_t *bytes;
     bm_event event;
     size_t length = request(asked, number), due = answer(wanted, number);
     check(bm_feed(&connection, (const uint8_t *)asked, length) == BM_OK);
-    check(bm_next(&connection, &event, room, sizeof room) == BM_OK && event.kind == BM_CALL);
+    check(bm_next(&connection, &event) == BM_OK && event.kind == BM_CALL);
     check(bm_answer(&connection, event.number, (const uint8_t *)result, strlen(result)) == BM_OK);
-    check(bm_take(&connection, room, sizeof room) == due && !memcmp(room, wanted, due));
+    check(bm_output(&connection, &bytes) == due && !memcmp(bytes, wanted, due));
+    check(bm_written(&connection, due) == BM_OK);
 }
 
 static void see(unsigned side, const char *frame, size_t length)
@@ -105,7 +106,7 @@ static void see_unreadable(unsigned count)
 static void by_judge(const char *kind, unsigned count)
 {
     bm_judge_options options = {.size = sizeof options};
-    check(bm_judge_new(&options, &judge.at) == BM_OK);
+    check(bm_judge_open(&options, &judge.at) == BM_OK);
     bool is_unreadable = !strcmp(kind, "unreadable"), is_twice = !strcmp(kind, "twice");
     bool is_passed = is_twice || !strncmp(kind, "passed", 6), is_reversed = !strncmp(kind, "reversed", 8);
     for (unsigned number = 1; number <= count; number++) {
@@ -137,8 +138,8 @@ int main(int words, char **word)
     if (strstr(kind, "-strings"))
         id_form = "\"request-%u\"";
     if (!strcmp(kind, "connection")) {
-        bm_settings settings = {.framing = BM_FRAMES};
-        check(bm_new(&settings, &connection.at) == BM_OK);
+        bm_options options = {.size = sizeof options, .framing = BM_FRAMES};
+        check(bm_open(&options, &connection.at) == BM_OK);
         for (unsigned number = 1; number <= count; number++)
             by_connection(number);
         bm_free(connection);

@@ -42,7 +42,7 @@ static void begin(const char *line)
     let_go();
     if (sscanf(line, "judge %u %u %u %u", &options.rules, &options.framing, &options.content, &options.ids) != 4)
         bad(line);
-    int32_t code = bm_judge_new(&options, &judge.at);
+    int32_t code = bm_judge_open(&options, &judge.at);
     is_there = code == BM_OK;
     printf("code %d\n", code);
 }

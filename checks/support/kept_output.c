@@ -1,7 +1,9 @@
 /* usage: kept_output frames|lines|contents LONG COUNT
  *
- * Has a connection write one notification of LONG bytes and a short one behind it, and takes the long one; and then
- * COUNT short ones, and takes all but the last. Prints how many bytes more than before the library holds each time. */
+ * Has a connection write one notification of LONG bytes and a short one behind it, and writes the long one, in parts
+ * where it may; and then COUNT short ones, and all but the last of them. Prints how many bytes more than before the
+ * library holds each time; how many more with all written, behind a long one; and how many more these are, than behind
+ * the one before, behind one that was written in parts and behind one that was written as it was lent. */
 #include "bullmyrtle.h"
 
 #include <malloc.h>
@@ -30,14 +32,31 @@ static void notify(const char *params, size_t length)
     check(bm_notify(&connection, (const uint8_t *)"n", 1, (const uint8_t *)params, length) == BM_OK, "bm_notify");
 }
 
-/* Takes so many bytes, in pieces of at most `size`, or of contents so many texts. */
-static void take(size_t count, bool is_whole, uint8_t *room, size_t size)
+enum { PART = 5000 };
+
+/* Writes so many bytes in parts of at most `most`, or so many messages of contents. */
+static void put(size_t count, bool is_whole, size_t most)
 {
+    const uint8_t *bytes;
     while (count) {
-        size_t taken = bm_take(&connection, room, is_whole || count > size ? size : count);
-        check(taken, "bm_take");
-        count -= is_whole ? 1 : taken;
+        size_t lent = bm_output(&connection, &bytes), part = lent;
+        check(lent, "bm_output");
+        if (!is_whole && part > count)
+            part = count;
+        if (!is_whole && part > most)
+            part = most;
+        check(bm_written(&connection, part) == BM_OK, "bm_written");
+        count -= is_whole ? 1 : part;
     }
+}
+
+/* How many bytes more than before are held once a text is written as a whole. */
+static ssize_t behind(size_t before, const char *text, size_t length, bool is_whole, size_t most)
+{
+    notify(text, length);
+    put(is_whole ? 1 : bm_pending(&connection), is_whole, most);
+    check(!bm_pending(&connection), "all is written");
+    return (ssize_t)(held() - before);
 }
 
 int main(int words, char **given)
@@ -48,33 +67,38 @@ int main(int words, char **given)
     while (options.framing < 3 && strcmp(framings[options.framing], given[1]))
         options.framing++;
     check(bm_open(&options, &connection.at) == BM_OK, "bm_open");
-    size_t length = strtoull(given[2], NULL, 10), count = strtoull(given[3], NULL, 10), size = length + 1000;
+    size_t length = strtoull(given[2], NULL, 10), count = strtoull(given[3], NULL, 10);
     char *text = malloc(length);
-    uint8_t *room = malloc(size);
-    check(text && room && length > 2, "memory");
+    check(text && length > 2, "memory");
     memset(text, '1', length);
     text[0] = '[';
     text[length - 1] = ']';
     bool is_whole = options.framing == BM_CONTENTS;
     notify("[]", 2);
     size_t shortest = bm_pending(&connection);
-    take(is_whole ? 1 : shortest, is_whole, room, size);
+    put(is_whole ? 1 : shortest, is_whole, SIZE_MAX);
     size_t before = held();
 
     notify(text, length);
     size_t longest = bm_pending(&connection);
     notify("[]", 2);
-    take(is_whole ? 1 : longest, is_whole, room, size);
-    size_t behind = held() - before;
-    take(is_whole ? 1 : shortest, is_whole, room, size);
+    put(is_whole ? 1 : longest, is_whole, PART);
+    ssize_t long_one = (ssize_t)(held() - before);
 
     for (size_t i = 0; i < count; i++)
         notify("[]", 2);
-    take((count - 1) * (is_whole ? 1 : shortest), is_whole, room, size);
+    put(count * (is_whole ? 1 : shortest), is_whole, PART);
     check(bm_pending(&connection) == shortest, "one text is left");
-    printf("%zd %zd\n", (ssize_t)behind, (ssize_t)(held() - before));
+    ssize_t many = (ssize_t)(held() - before);
+    put(is_whole ? 1 : shortest, is_whole, PART);
+
+    /* (what is made anew with each is there behind the second) */
+    behind(before, text, length, is_whole, PART);
+    ssize_t warm = behind(before, text, length, is_whole, SIZE_MAX),
+            left = behind(before, text, length, is_whole, PART);
+    ssize_t again = behind(before, text, length, is_whole, SIZE_MAX);
+    printf("%zd %zd %zd %zd %zd\n", long_one, many, left, left - warm, again - warm);
     free(text);
-    free(room);
     bm_free(connection);
     return 0;
 }

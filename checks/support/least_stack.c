@@ -21,7 +21,6 @@
 
 enum { STACK = 1 << 18, PATTERN = 0xa5, ROOM = 1 << 20 };
 
-static uint8_t room[ROOM];
 static char text[ROOM];
 static int deepest;
 
@@ -59,14 +58,13 @@ static void feed(bm_connection *connection, const char *line, size_t length)
     must(bm_feed(connection, (const uint8_t *)"\n", 1));
 }
 
-/* Tells all, one by one and together, and answers each call in one of the ways that there are. */
+/* Tells all, and answers each call in one of the ways that there are. */
 static void hear(bm_connection *connection)
 {
     bm_event event;
-    bm_told told;
     uint64_t key;
     for (;;) {
-        must(bm_next(connection, &event, room, ROOM));
+        must(bm_next(connection, &event));
         if (event.kind == BM_NONE) {
             break;
         }
@@ -78,8 +76,9 @@ static void hear(bm_connection *connection)
                                          : bm_fail(connection, event.number, -5, json, 1, json, sizeof json - 1));
         }
     }
-    bm_tell(connection, room, ROOM, 0, &told);
-    while (bm_take(connection, room, ROOM)) {
+    const uint8_t *bytes;
+    for (size_t lent; (lent = bm_output(connection, &bytes));) {
+        must(bm_written(connection, lent));
     }
 }
 
@@ -96,9 +95,13 @@ static void *make_calls(void *unused)
         "[{\"jsonrpc\":\"2.0\",\"method\":\"a\",\"id\":18446744073709551615},{\"jsonrpc\":\"2.0\",\"method\":\"b\"},7,"
         "{\"jsonrpc\":\"2.0\",\"id\":3,\"result\":1},{\"jsonrpc\":\"2.0\",\"method\":\"c\",\"params\":[1.5],\"id\":"
         "null}]"};
-    bm_settings settings = {.framing = BM_LINES, .takes_cancels = 1, .content = 1 << 16};
+    bm_options options = {.size = sizeof options,
+                          .framing = BM_LINES,
+                          .cancels = BM_CANCELS_LSP,
+                          .content = 1 << 16,
+                          .entries = UINT32_MAX};
     bm_connection connection;
-    must(bm_new(&settings, &connection.at));
+    must(bm_open(&options, &connection.at));
     for (int levels = 1; levels <= deepest; levels++) {
         feed(&connection, text, deep_message(levels));
         for (size_t i = 0; i < sizeof lines / sizeof *lines; i++) {

@@ -10,7 +10,7 @@
 #include <stdlib.h>
 #include <string.h>
 
-enum { MOST_THREADS = 64, ROOM = 1 << 12, LONGEST = 300 };
+enum { MOST_THREADS = 64, PART = 100, LONGEST = 300 };
 
 typedef struct {
     uint8_t *bytes;
@@ -27,36 +27,38 @@ static void check(bool is_so, const char *what)
     }
 }
 
-/* Takes all that is to be written, some bytes at a time. */
+/* Writes all that is to be written, some bytes at a time. */
 static void put(output *to, bm_connection *connection)
 {
-    size_t pending;
-    while ((pending = bm_pending(connection))) {
-        if (to->size - to->length < pending) {
-            to->size = 2 * to->size + pending;
+    const uint8_t *bytes;
+    size_t lent;
+    while ((lent = bm_output(connection, &bytes))) {
+        size_t part = lent < PART ? lent : PART;
+        if (to->size - to->length < part) {
+            to->size = 2 * to->size + part;
             to->bytes = realloc(to->bytes, to->size);
             check(to->bytes, "out of memory");
         }
-        to->length += bm_take(connection, to->bytes + to->length, pending < 100 ? pending : 100);
+        memcpy(to->bytes + to->length, bytes, part);
+        to->length += part;
+        check(bm_written(connection, part) == BM_OK, "bm_written");
     }
 }
 
 static void hear(bm_connection *connection)
 {
-    uint8_t room[ROOM];
     bm_event event;
     uint64_t key;
     for (;;) {
-        check(bm_next(connection, &event, room, sizeof room) == BM_OK, "bm_next");
-        const uint8_t *text = room + event.name_len + 1;
+        check(bm_next(connection, &event) == BM_OK, "bm_next");
         if (event.kind == BM_NONE)
             return;
         if (event.kind == BM_CALL && !event.flags)
-            check(bm_answer(connection, event.number, text, 0) == BM_OK, "bm_answer of a notification");
+            check(bm_close_call(connection, event.number) == BM_OK, "bm_close_call");
         else if (event.kind == BM_CALL) {
             const uint8_t *method = (const uint8_t *)"ask";
-            check(bm_call(connection, event.number, method, 3, text, event.text_len, &key) == BM_OK, "bm_call");
-            check(bm_answer(connection, event.number, text, event.text_len) == BM_OK, "bm_answer");
+            check(bm_call(connection, event.number, method, 3, event.text, event.text_len, &key) == BM_OK, "bm_call");
+            check(bm_answer(connection, event.number, event.text, event.text_len) == BM_OK, "bm_answer");
         } else if (event.kind == BM_CANCELLED)
             check(bm_cancel(connection, event.number) == BM_NOT_OPEN, "bm_cancel");
     }
@@ -64,12 +66,12 @@ static void hear(bm_connection *connection)
 
 static void *session(void *into)
 {
-    bm_settings settings = {.framing = BM_LINES, .takes_cancels = 1};
+    bm_options options = {.size = sizeof options, .framing = BM_LINES, .cancels = BM_CANCELS_LSP};
     bm_connection connection;
     char long_text[LONGEST + 1], line[LONGEST + 300];
     memset(long_text, 'x', LONGEST);
     long_text[LONGEST] = 0;
-    check(bm_new(&settings, &connection.at) == BM_OK, "bm_new");
+    check(bm_open(&options, &connection.at) == BM_OK, "bm_open");
     for (unsigned long i = 0; i < requests; i++) {
         int length = snprintf(line, sizeof line,
                               "[{\"jsonrpc\":\"2.0\",\"method\":\"m\",\"params\":[%lu,\"%.*s\"],\"id\":%lu},"

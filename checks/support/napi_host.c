@@ -356,8 +356,8 @@ static void say_text(const char *text, size_t length)
     said.length += length + 1;
 }
 
-/* The numbers of a saying, as addon.c counts the kinds. */
-enum { ANSWER = 1, FAIL = 2, CLOSE = 7, ALONE = 16 };
+/* The kinds of sayings, and what stands beside one that has no second text. */
+enum { ANSWER = BM_SAY_ANSWER, FAIL = BM_SAY_FAIL, CLOSE = BM_SAY_CLOSE, ALONE = 16 };
 
 static void say(int kind, double number, double code)
 {
@@ -397,21 +397,32 @@ static void put(void)
             give_up("the output is gone");
 }
 
-/* Answers what was told, and gives whether there may be more. */
+/* An element of an array, whose properties lie in the order of the last one first. */
+static napi_value element(napi_value array, size_t before_last)
+{
+    napi_value it = array->properties;
+    while (before_last--)
+        it = it->next;
+    return it->value;
+}
+
+/* Answers what was told, and gives whether there may be more. The bodies stand in front, in an array of JSON; that of
+ * an event without room among them, the last, is the second of four texts, of which the last has all others. */
 static bool answer_all(napi_value texts)
 {
     if (head_numbers[0] != BM_OK)
         give_up(bm_code_text((int32_t)head_numbers[0]));
-    const char *at = texts ? texts->text : "";
-    size_t between = (size_t)head_numbers[3];
-    for (size_t i = 0; i < (size_t)head_numbers[1]; i++) {
+    napi_value large = texts && texts->kind == A_OBJECT ? element(texts, 2) : NULL;
+    const char *at = !texts ? "" : large ? element(texts, 0)->text + 1 : texts->text + 1;
+    size_t count = (size_t)head_numbers[1];
+    for (size_t i = 0; i < count; i++) {
         const double *head = head_numbers + 4 + 6 * i;
-        at += bytes_in(at, head[3]) + between;
-        size_t length = bytes_in(at, head[4]);
+        bool is_large = large && i == count - 1;
+        size_t length = is_large ? large->length : bytes_in(at, head[4]);
         if (((int)head[0] & 15) == BM_CALL)
-            answer(head, at, length);
-        at += length + between;
-        at += (size_t)(between ? head[5] : 0);
+            answer(head, is_large ? large->text : at, length);
+        if (!is_large && length)
+            at += length + 1;
     }
     return head_numbers[2] != 0;
 }
@@ -428,8 +439,8 @@ static void hear(bool has_more)
 
 static void feed(uint8_t *bytes, size_t count)
 {
-    napi_value given[] = {handle, bytes_of(bytes, count), number_of(0), truth(false), truth(false)};
-    hear(answer_all(call("fed", 5, given)));
+    napi_value given[] = {handle, bytes_of(bytes, count), number_of(0), truth(false)};
+    hear(answer_all(call("fed", 4, given)));
 }
 
 static void load(const char *file)

@@ -2,18 +2,21 @@
  *
  * Plays a script for a connection through the C library: an action a line on the standard input, what it gives on the
  * standard output. connection_script.py has the grammar. With `together`, what is said in lines that follow one another
- * is said by one bm_say_all, which also takes what a line behind them takes, and a piece is fed and its events are told
- * by one bm_fed. What is given is the same. */
+ * is said by one bm_say_all. What is given is the same.
+ *
+ * What the library lends is compared with a copy of it behind each action, as long as the loan lasts. Texts that lie in
+ * a lent event are passed from there. */
 #include "bullmyrtle.h"
 
 #include <errno.h>
+#include <stddef.h>
 #include <stdio.h>
 #include <stdlib.h>
 #include <string.h>
 
 /* The texts of the codes, as scripts have them. */
-static const char *const refusals[] = {"",         "memory", "not_open", "not_waiting", "over", "not_json",
-                                       "not_text", "small",  "settings", "empty",       "full"};
+static const char *const refusals[] = {"",         "memory",   "not_open", "not_waiting", "over",
+                                       "not_json", "not_text", "settings", "empty",       "full"};
 static const char *const endings[] = {"Clean",    "BadHead",     "BadLength", "TwoLengths", "TooLarge",
                                       "NoLength", "HeadTooLong", "Truncated", "Read",       "Full"};
 
@@ -24,11 +27,20 @@ typedef struct {
 } bytes;
 
 static bm_connection connection;
-static bool has_connection, has_begun;
+static bool has_connection, has_begun, in_contents;
 
 static void give_up(void)
 {
     exit(2);
+}
+
+/* Something that the library promises and doesn't keep. */
+static void check(bool is_so, const char *what)
+{
+    if (!is_so) {
+        fprintf(stderr, "play_script: %s\n", what);
+        exit(6);
+    }
 }
 
 static void *taken(size_t size)
@@ -154,18 +166,17 @@ static void say_key(int32_t code, uint64_t key)
         say(code);
 }
 
-static void say_event(const bm_event *event, const uint8_t *room)
+static void say_event(const bm_event *event)
 {
-    const uint8_t *text = room + event->name_len + 1, *id = text + event->text_len + 1;
     switch (event->kind) {
     case BM_NONE:
         puts("none");
         return;
     case BM_CALL:
         printf("call %llu ", (unsigned long long)event->number);
-        put_hex(room, event->name_len);
-        put_text(text, event->text_len);
-        put_text(id, event->id_len);
+        put_hex(event->name, event->name_len);
+        put_text(event->text, event->text_len);
+        put_text(event->id, event->id_len);
         break;
     case BM_CANCELLED:
         printf("cancelled %llu", (unsigned long long)event->number);
@@ -174,11 +185,11 @@ static void say_event(const bm_event *event, const uint8_t *room)
         printf("replied %llu ", (unsigned long long)event->key);
         if (event->flags == BM_ERROR) {
             printf("error %lld ", (long long)event->code);
-            put_hex(room, event->name_len);
-            put_text(text, event->text_len);
+            put_hex(event->name, event->name_len);
+            put_text(event->text, event->text_len);
         } else {
             printf("result ");
-            put_hex(text, event->text_len);
+            put_hex(event->text, event->text_len);
         }
         break;
     case BM_UNANSWERED:
@@ -193,29 +204,170 @@ static void say_event(const bm_event *event, const uint8_t *room)
             printf("invalid %llu %lld ", (unsigned long long)event->key, (long long)event->code);
         else
             printf("unreadable ");
-        put_hex(text, event->text_len);
+        put_hex(event->text, event->text_len);
         break;
     }
     putchar('\n');
 }
 
-/* Asks with a room of no bytes first, and then with one that just fits. */
+/* ---- what is lent */
+
+typedef struct {
+    const uint8_t *at;
+    uint8_t *copy;
+    size_t length;
+} loan;
+
+/* The three texts of an event, and what is to be written. */
+enum { NAME, TEXT, ID, OUTPUT, LOANS };
+static loan loans[LOANS];
+
+static void end_loan(loan *it)
+{
+    free(it->copy);
+    *it = (loan){NULL, NULL, 0};
+}
+
+static void begin_loan(loan *it, const uint8_t *at, size_t length)
+{
+    end_loan(it);
+    *it = (loan){at, taken(length), length};
+    if (length)
+        memcpy(it->copy, at, length);
+}
+
+static void check_loans(void)
+{
+    for (int i = 0; i < LOANS; i++)
+        check(!loans[i].length || !memcmp(loans[i].at, loans[i].copy, loans[i].length), "what is lent has changed");
+}
+
+/* The texts of the event go back. */
+static void end_event(void)
+{
+    check_loans();
+    for (int i = NAME; i <= ID; i++)
+        end_loan(&loans[i]);
+}
+
+/* Where these bytes lie in the event that is lent, or else where they are. */
+static const uint8_t *lent(const uint8_t *own, size_t length)
+{
+    for (int i = NAME; length && i <= ID; i++)
+        for (size_t at = 0; at + length <= loans[i].length; at++)
+            if (loans[i].at[at] == *own && !memcmp(loans[i].at + at, own, length))
+                return loans[i].at + at;
+    return own;
+}
+
+/* What bm_output lends, which is the same until something of it was written. */
+static const uint8_t *output(size_t *length)
+{
+    const uint8_t *at = NULL;
+    size_t pending = bm_pending(&connection);
+    *length = bm_output(&connection, &at);
+    check((*length > 0) == (pending > 0) && *length <= pending, "it lends as much as isn't pending");
+    check(!in_contents || *length == pending, "it lends other than a message");
+    check(pending == bm_pending(&connection), "other bytes are pending once they are lent");
+    if (loans[OUTPUT].at)
+        check(at == loans[OUTPUT].at && *length == loans[OUTPUT].length, "it lends other bytes than before");
+    else if (*length)
+        begin_loan(&loans[OUTPUT], at, *length);
+    check_loans();
+    return at;
+}
+
+static void written(size_t length, size_t of)
+{
+    check(bm_written(&connection, of + 1) == BM_SETTINGS, "more was written than is lent");
+    check(bm_written(&connection, SIZE_MAX) == BM_SETTINGS, "more was written than is lent");
+    check(!in_contents || of == 1 || bm_written(&connection, of - 1) == BM_SETTINGS, "a part of a message was written");
+    check_loans();
+    size_t pending = bm_pending(&connection);
+    check(bm_written(&connection, length) == BM_OK, "what was written isn't taken note of");
+    check(in_contents || pending - length == bm_pending(&connection), "other bytes are pending");
+    end_loan(&loans[OUTPUT]);
+}
+
+/* Takes so many bytes, or in Contents a message that has no more; an odd number byte by byte, where few are lent, since
+ * each byte looks at all of them. */
+enum { FEW = 4096 };
+
+static void take(size_t most)
+{
+    /* (no more than there is, so that a script may ask for 2^40 bytes) */
+    size_t pending = bm_pending(&connection), length, count = 0;
+    if (most > pending)
+        most = pending;
+    else if (in_contents && most < pending)
+        most = 0;
+    uint8_t *bytes = taken(most);
+    while (count < most) {
+        const uint8_t *at = output(&length);
+        size_t part = length < most - count ? length : most - count;
+        if (!in_contents && most % 2 && length <= FEW)
+            part = 1;
+        check(0 < part && (!in_contents || part == length), "it lends as much as isn't pending");
+        memcpy(bytes + count, at, part);
+        written(part, length);
+        count += part;
+    }
+    printf("bytes ");
+    put_hex(bytes, count);
+    putchar('\n');
+    free(bytes);
+}
+
+/* What isn't listed for a kind is 0. */
+static void check_fields(const bm_event *it)
+{
+    bm_event only = {.kind = it->kind};
+    bool is_error = it->kind == BM_REPLIED && it->flags == BM_ERROR;
+    bool is_invalid = it->kind == BM_BROKEN && it->flags == BM_INVALID;
+    bool has_text = it->kind == BM_CALL || it->kind == BM_REPLIED || it->kind == BM_BROKEN;
+    if (has_text || it->kind == BM_INPUT_OVER)
+        only.flags = it->flags;
+    if (it->kind == BM_CALL || it->kind == BM_CANCELLED || it->kind == BM_BROKEN)
+        only.number = it->number;
+    if (it->kind == BM_REPLIED || it->kind == BM_UNANSWERED || is_invalid)
+        only.key = it->key;
+    if (is_error || is_invalid)
+        only.code = it->code;
+    if (it->kind == BM_CALL || is_error)
+        only.name_len = it->name_len;
+    if (has_text)
+        only.text_len = it->text_len;
+    if (it->kind == BM_CALL && it->flags == BM_REQUEST)
+        only.id_len = it->id_len;
+    size_t head = (size_t)((const char *)&only.name - (const char *)&only);
+    check(!memcmp(it, &only, head), "an event has more than its kind");
+}
+
 static void next(void)
 {
     bm_event event;
-    uint8_t *room = taken(0);
-    int32_t code = bm_next(&connection, &event, room, 0);
-    if (code == BM_SMALL) {
-        size_t size = event.name_len + event.text_len + event.id_len + 3;
-        free(room);
-        room = taken(size);
-        code = bm_next(&connection, &event, room, size);
-    }
-    if (code == BM_OK)
-        say_event(&event, room);
-    else
+    memset(&event, 0xa5, sizeof event);
+    end_event();
+    int32_t code = bm_next(&connection, &event);
+    if (code != BM_OK) {
         say(code);
-    free(room);
+        return;
+    }
+    check_fields(&event);
+    begin_loan(&loans[NAME], event.name, event.name_len);
+    begin_loan(&loans[TEXT], event.text, event.text_len);
+    begin_loan(&loans[ID], event.id, event.id_len);
+    say_event(&event);
+}
+
+static void end_connection(void)
+{
+    check_loans();
+    for (int i = 0; i < LOANS; i++)
+        end_loan(&loans[i]);
+    if (has_connection)
+        bm_free(connection);
+    has_connection = false;
 }
 
 static uint32_t one_of(const char *it, const char *const *names, uint32_t count)
@@ -252,20 +404,6 @@ static uint32_t most_entries(char **line)
     return most > UINT32_MAX ? UINT32_MAX : (uint32_t)most;
 }
 
-/* By bm_open; where bm_new has the settings too, half of the connections are made by that one. */
-static int32_t made(const bm_options *options)
-{
-    if (options->broken || options->null_params || options->entries != UINT32_MAX ||
-        options->cancels == BM_CANCELS_MCP || options->content > 1 << 24 || options->calls % 2)
-        return bm_open(options, &connection.at);
-    bm_settings settings = {.framing = options->framing,
-                            .order = options->order,
-                            .takes_cancels = options->cancels == BM_CANCELS_LSP,
-                            .content = options->content,
-                            .calls = options->calls};
-    return bm_new(&settings, &connection.at);
-}
-
 static void begin(char *line)
 {
     static const char *const framings[] = {"frames", "lines", "contents"};
@@ -282,12 +420,11 @@ static void begin(char *line)
     options.entries = most_entries(&line);
     no_more(line);
     has_begun = true;
-    if (has_connection)
-        bm_free(connection);
-    has_connection = false;
+    end_connection();
+    in_contents = options.framing == BM_CONTENTS;
     /* a limit of 0 is the greatest here, and none in a script */
     options.content = content > UINT32_MAX ? UINT32_MAX : (uint32_t)content;
-    int32_t code = content && options.calls ? made(&options) : BM_SETTINGS;
+    int32_t code = content && options.calls ? bm_open(&options, &connection.at) : BM_SETTINGS;
     has_connection = code == BM_OK;
     say(code);
 }
@@ -314,32 +451,11 @@ static void batch(char *line)
         lengths[i] = parts[i].length;
         free(parts[i].at);
     }
-    int32_t code = bm_call_batch(&connection, of, all, total, lengths, count, &first);
+    int32_t code = bm_call_batch(&connection, of, lent(all, total), total, lengths, count, &first);
     say_key(code, first);
     free(parts);
     free(all);
     free(lengths);
-}
-
-/* Takes by bm_taken, which tells why it gives nothing. */
-static size_t take_counted(uint8_t *room, size_t size, size_t waiting)
-{
-    size_t count = SIZE_MAX;
-    int32_t code = bm_taken(&connection, room, size, &count);
-    if (code == BM_OK && (count || !waiting))
-        return count;
-    if (code != BM_SMALL || !waiting || count != waiting)
-        exit(6);
-    return 0;
-}
-
-/* Something that the library promises and doesn't keep. */
-static void check(bool is_so, const char *what)
-{
-    if (!is_so) {
-        fprintf(stderr, "play_script: %s\n", what);
-        exit(6);
-    }
 }
 
 static void fault_place(void)
@@ -381,9 +497,11 @@ static void play(char *line)
     }
     if (!strcmp(action, "feed")) {
         bytes it = unhex(word(&line), false);
+        end_event();
         say(bm_feed(&connection, it.at, it.length));
         free(it.at);
     } else if (!strcmp(action, "end")) {
+        end_event();
         static const char *const ways[] = {"closed", "failed"};
         say(bm_end(&connection, one_of(word(&line), ways, 2)));
     } else if (!strcmp(action, "next"))
@@ -391,7 +509,8 @@ static void play(char *line)
     else if (!strcmp(action, "call")) {
         uint64_t of = number(word(&line)), key = 0;
         bytes method = unhex(word(&line), false), params = unhex(word(&line), true);
-        int32_t code = bm_call(&connection, of, method.at, method.length, params.at, params.length, &key);
+        int32_t code = bm_call(&connection, of, lent(method.at, method.length), method.length,
+                               lent(params.at, params.length), params.length, &key);
         say_key(code, key);
         free(method.at);
         free(params.at);
@@ -400,7 +519,8 @@ static void play(char *line)
         line = NULL;
     } else if (!strcmp(action, "notify")) {
         bytes method = unhex(word(&line), false), params = unhex(word(&line), true);
-        say(bm_notify(&connection, method.at, method.length, params.at, params.length));
+        say(bm_notify(&connection, lent(method.at, method.length), method.length, lent(params.at, params.length),
+                      params.length));
         free(method.at);
         free(params.at);
     } else if (!strcmp(action, "withdraw"))
@@ -412,29 +532,21 @@ static void play(char *line)
         if (result.is_none && of % 2)
             say(bm_close_call(&connection, of));
         else
-            say(bm_answer(&connection, of, result.at, result.length));
+            say(bm_answer(&connection, of, lent(result.at, result.length), result.length));
         free(result.at);
     } else if (!strcmp(action, "fail")) {
         uint64_t of = number(word(&line));
         int64_t code = code_in(word(&line));
         bytes message = unhex(word(&line), false), data = unhex(word(&line), true);
-        say(bm_fail(&connection, of, code, message.at, message.length, data.at, data.length));
+        say(bm_fail(&connection, of, code, lent(message.at, message.length), message.length, lent(data.at, data.length),
+                    data.length));
         free(message.at);
         free(data.at);
     } else if (!strcmp(action, "cancel"))
         say(bm_cancel(&connection, number(word(&line))));
-    else if (!strcmp(action, "take")) {
-        size_t size = (size_t)number(word(&line)), waiting = bm_pending(&connection);
-        /* (no more than there is, so that a script may ask for a room of 2^40 bytes; bm_take gives the same) */
-        if (size > waiting)
-            size = waiting;
-        uint8_t *room = taken(size);
-        size_t count = size % 2 ? take_counted(room, size, waiting) : bm_take(&connection, room, size);
-        printf("bytes ");
-        put_hex(room, count);
-        putchar('\n');
-        free(room);
-    } else if (!strcmp(action, "pending"))
+    else if (!strcmp(action, "take"))
+        take((size_t)number(word(&line)));
+    else if (!strcmp(action, "pending"))
         printf("pending %zu\n", bm_pending(&connection));
     else if (!strcmp(action, "is_done"))
         puts(bm_is_done(&connection) ? "true" : "false");
@@ -444,101 +556,29 @@ static void play(char *line)
         counts();
     else
         give_up();
-    if (line)
-        give_up();
+    no_more(line);
+}
+
+/* Has some of the output lent at one line in LOOK, and looks whether all that is lent is as it was. */
+enum { LOOK = 3, MOST_LENT = 1 << 16 };
+
+static void look(void)
+{
+    static unsigned long lines;
+    size_t length;
+    if (!has_connection)
+        return;
+    if (++lines % LOOK == 0 && bm_pending(&connection) <= MOST_LENT)
+        output(&length);
+    check_loans();
 }
 
 /* ---- several actions in one call */
-
-/* (so that NULL is passed too) */
-static uint8_t *null_if_empty(uint8_t *at, size_t length)
-{
-    return length ? at : NULL;
-}
 
 static bool is(const char *line, const char *action)
 {
     size_t length = strlen(action);
     return !strncmp(line, action, length) && (!line[length] || line[length] == ' ');
-}
-
-/* The room for events: it is as large as the largest event was told to need. */
-static uint8_t *event_room;
-static size_t event_room_size;
-
-static void make_event_room(size_t size)
-{
-    free(event_room);
-    event_room = taken(size);
-    event_room_size = size;
-}
-
-static void say_told(const bm_told *told, uint32_t most)
-{
-    size_t end = 0;
-    check(told->count <= most && told->used <= event_room_size, "more was told than there was room for");
-    check((told->stopped == BM_STOP_MOST) == (told->count == most), "it stopped at another count");
-    check((told->needed > 0) == (told->stopped == BM_STOP_ROOM), "room was needed where there was enough");
-    check(told->pending == bm_pending(&connection), "other bytes are pending");
-    for (uint32_t i = 0; i < told->count; i++) {
-        bm_event event;
-        size_t at = (end + 7) / 8 * 8;
-        memcpy(&event, event_room + at, sizeof event);
-        say_event(&event, event_room + at + sizeof event);
-        end = at + sizeof event + event.name_len + event.text_len + event.id_len + 3;
-    }
-    check(end == told->used, "what is used ends elsewhere");
-}
-
-/* Tells so many events; what was told of them already may be passed. */
-static void tell_rest(uint32_t most, const bm_told *first)
-{
-    bm_told told;
-    if (first)
-        told = *first;
-    else
-        bm_tell(&connection, null_if_empty(event_room, event_room_size), event_room_size, most, &told);
-    for (;;) {
-        say_told(&told, most);
-        most -= told.count;
-        if (!most)
-            return;
-        if (told.stopped == BM_STOP_NONE) {
-            while (most--)
-                puts("none");
-            return;
-        }
-        bool grows = told.stopped == BM_STOP_ROOM && told.needed > event_room_size;
-        if (grows)
-            make_event_room(told.needed);
-        bm_tell(&connection, event_room, event_room_size, most, &told);
-        check(!grows || told.count, "the room that an event was told to need isn't enough");
-    }
-}
-
-static uint32_t nexts(char **lines, size_t count)
-{
-    uint32_t found = 0;
-    while (found < count && !strcmp(lines[found], "next"))
-        found++;
-    return found;
-}
-
-/* Feeds a piece, and tells as many events as the lines behind it ask for. Gives how many lines it played. */
-static size_t feed_and_tell(char **lines, size_t count)
-{
-    uint32_t most = nexts(lines + 1, count - 1);
-    char *line = lines[0];
-    bm_told told;
-    word(&line);
-    bytes it = unhex(word(&line), false);
-    no_more(line);
-    int32_t code = bm_fed(&connection, null_if_empty(it.at, it.length), it.length,
-                          null_if_empty(event_room, event_room_size), event_room_size, most, &told);
-    say(code);
-    tell_rest(most, code == BM_OK ? &told : NULL);
-    free(it.at);
-    return most + 1;
 }
 
 /* What is to be said. */
@@ -646,59 +686,33 @@ static size_t say_said(const bm_saying *before)
     return refused;
 }
 
-/* (a script that takes all there is asks for more, and that is taken by itself) */
-enum { MOST_TAKEN = 1 << 16 };
-
-/* Says what these lines say, and takes what the line behind them takes. Gives how many lines it played. */
+/* Says what these lines say. Gives how many lines it played. */
 static size_t say_some(char **lines, size_t count)
 {
-    size_t played = 0, size = 0;
-    bool takes = false;
+    size_t played = 0, refused = SIZE_MAX;
     saying_count = text_length = 0;
     while (played < count && is_saying(lines[played]))
         read_saying(lines[played++]);
-    if (played < count && is(lines[played], "take") && strlen(lines[played]) < sizeof "take 65536") {
-        size = (size_t)number(lines[played] + strlen("take "));
-        takes = size <= MOST_TAKEN;
-        size = takes ? size : 0;
-        played += takes;
-    }
     bm_saying *before = taken(saying_count * sizeof *before);
     memcpy(before, sayings, saying_count * sizeof *before);
-    uint8_t *room = taken(size);
-    bm_said said;
-    int32_t code = bm_say_all(&connection, sayings, saying_count, null_if_empty(texts, text_length), text_length,
-                              null_if_empty(room, size), size, &said);
+    const uint8_t *bytes = text_length ? lent(texts, text_length) : NULL;
+    int32_t code = bm_say_all(&connection, sayings, saying_count, bytes, text_length, &refused);
     check(code == BM_OK, "what was to be said wasn't read");
-    check(said.refused == say_said(before), "others were refused");
-    check(said.pending == bm_pending(&connection), "other bytes are pending");
-    if (takes) {
-        printf("bytes ");
-        put_hex(room, said.taken);
-        putchar('\n');
-    } else
-        check(!said.taken, "bytes were taken without a room");
+    check(refused == say_said(before), "others were refused");
     free(before);
-    free(room);
     return played;
 }
 
-/* Plays the next line, and those behind it that can be played in the same call. Gives how many these are. */
-static size_t play_some(char **lines, size_t count)
+/* Plays the next line, and with `together` those behind it that are said in the same call. Gives how many these are. */
+static size_t play_some(char **lines, size_t count, bool together)
 {
-    if (has_connection && is_saying(lines[0]))
-        return say_some(lines, count);
-    if (has_connection && is(lines[0], "feed") && nexts(lines + 1, count - 1))
-        return feed_and_tell(lines, count);
-    if (has_connection && !strcmp(lines[0], "next")) {
-        uint32_t most = nexts(lines, count);
-        tell_rest(most, NULL);
-        return most;
-    }
-    if (is(lines[0], "settings"))
-        make_event_room(0);
-    play(lines[0]);
-    return 1;
+    size_t played = 1;
+    if (together && has_connection && is_saying(lines[0]))
+        played = say_some(lines, count);
+    else
+        play(lines[0]);
+    look();
+    return played;
 }
 
 /* The lines of the standard input. */
@@ -729,26 +743,20 @@ static void free_all(char **lines, size_t count)
     while (count--)
         free(lines[count]);
     free(lines);
-    free(event_room);
     free(sayings);
     free(texts);
-    if (has_connection)
-        bm_free(connection);
+    end_connection();
 }
 
 int main(int words, char **given)
 {
     bool together = words > 1 && !strcmp(given[1], "together");
     size_t count;
-    if (bm_interface() != BM_INTERFACE || !bm_has(BM_HAS_TOGETHER) || !bm_has(BM_HAS_OPEN))
+    if (bm_interface() != BM_INTERFACE)
         return 5;
     char **lines = read_lines(&count);
-    for (size_t at = 0; at < count;) {
-        if (together)
-            at += play_some(lines + at, count - at);
-        else
-            play(lines[at++]);
-    }
+    for (size_t at = 0; at < count;)
+        at += play_some(lines + at, count - at, together);
     free_all(lines, count);
     return 0;
 }

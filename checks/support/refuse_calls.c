@@ -14,14 +14,12 @@
 
 void *__real_malloc(size_t);
 void *__real_realloc(void *, size_t);
-int32_t __real_bm_new(const bm_settings *, void **);
 int32_t __real_bm_open(const bm_options *, void **);
 void __real_bm_free(bm_connection);
 int32_t __real_bm_feed(bm_connection *, const uint8_t *, size_t);
 int32_t __real_bm_end(bm_connection *, uint32_t);
 bool __real_bm_fault_at(bm_connection *, uint64_t *);
-int32_t __real_bm_next(bm_connection *, bm_event *, uint8_t *, size_t);
-int32_t __real_bm_next_all(bm_connection *, uint8_t *, size_t, size_t *, uint32_t *);
+int32_t __real_bm_next(bm_connection *, bm_event *);
 int32_t __real_bm_call(bm_connection *, uint64_t, const uint8_t *, size_t, const uint8_t *, size_t, uint64_t *);
 int32_t __real_bm_call_batch(bm_connection *, uint64_t, const uint8_t *, size_t, const size_t *, size_t, uint64_t *);
 int32_t __real_bm_notify(bm_connection *, const uint8_t *, size_t, const uint8_t *, size_t);
@@ -30,12 +28,10 @@ int32_t __real_bm_answer(bm_connection *, uint64_t, const uint8_t *, size_t);
 int32_t __real_bm_fail(bm_connection *, uint64_t, int64_t, const uint8_t *, size_t, const uint8_t *, size_t);
 int32_t __real_bm_cancel(bm_connection *, uint64_t);
 int32_t __real_bm_close_call(bm_connection *, uint64_t);
-void __real_bm_tell(bm_connection *, uint8_t *, size_t, uint32_t, bm_told *);
-int32_t __real_bm_fed(bm_connection *, const uint8_t *, size_t, uint8_t *, size_t, uint32_t, bm_told *);
-int32_t __real_bm_say_all(bm_connection *, bm_saying *, size_t, const uint8_t *, size_t, uint8_t *, size_t, bm_said *);
-int32_t __real_bm_taken(bm_connection *, uint8_t *, size_t, size_t *);
+int32_t __real_bm_say_all(bm_connection *, bm_saying *, size_t, const uint8_t *, size_t, size_t *);
+size_t __real_bm_output(bm_connection *, const uint8_t **);
+int32_t __real_bm_written(bm_connection *, size_t);
 size_t __real_bm_pending(bm_connection *);
-size_t __real_bm_take(bm_connection *, uint8_t *, size_t);
 bool __real_bm_is_done(bm_connection *);
 void __real_bm_counts(bm_connection *, bm_report *);
 
@@ -173,29 +169,20 @@ static void refused_call(const char *line)
     }                                                                                                                  \
     return code
 
-/* Makes a connection, and makes it again where it is refused memory. */
-#define MADE(name, call)                                                                                               \
-    static char untouched;                                                                                             \
-    void *made = &untouched;                                                                                           \
-    int32_t code = INSIDE(call);                                                                                       \
-    while (code == BM_NO_MEMORY) {                                                                                     \
-        check(made == &untouched, name, "was refused memory, and has written something");                              \
-        refused_call(name "\n");                                                                                       \
-        code = INSIDE_AGAIN(call);                                                                                     \
-        check(is_each || code != BM_NO_MEMORY, name, "is still refused memory");                                       \
-    }                                                                                                                  \
-    if (code == BM_OK)                                                                                                 \
-        *at = made;                                                                                                    \
-    return code
-
-int32_t __wrap_bm_new(const bm_settings *settings, void **at)
-{
-    MADE("bm_new", __real_bm_new(settings, &made));
-}
-
 int32_t __wrap_bm_open(const bm_options *options, void **at)
 {
-    MADE("bm_open", __real_bm_open(options, &made));
+    static char untouched;
+    void *made = &untouched;
+    int32_t code = INSIDE(__real_bm_open(options, &made));
+    while (code == BM_NO_MEMORY) {
+        check(made == &untouched, "bm_open", "was refused memory, and has written something");
+        refused_call("bm_open\n");
+        code = INSIDE_AGAIN(__real_bm_open(options, &made));
+        check(is_each || code != BM_NO_MEMORY, "bm_open", "is still refused memory");
+    }
+    if (code == BM_OK)
+        *at = made;
+    return code;
 }
 
 int32_t __wrap_bm_feed(bm_connection *connection, const uint8_t *bytes, size_t length)
@@ -251,114 +238,22 @@ int32_t __wrap_bm_cancel(bm_connection *connection, uint64_t number)
     AGAIN("bm_cancel", __real_bm_cancel(connection, number), true);
 }
 
-/* Of what is told: contents that have no event may have come before memory was refused, so counts may have grown. */
-static void check_told(const char *name, const state *before, bm_connection *connection, const uint8_t *room,
-                       const uint8_t *room_before, size_t length)
-{
-    state after = seen(connection);
-    check(after.pending >= before->pending, name, "was refused memory, and has hidden some of the output");
-    check(after.report.open >= before->report.open, name, "was refused memory, and has closed something");
-    check(!length || !memcmp(room, room_before, length), name, "was refused memory, and has written to the room");
-}
-
-static uint8_t *copied(const uint8_t *room, size_t length)
-{
-    uint8_t *made = __real_malloc(length ? length : 1);
-    check(made, "the copy of a room", "there is no memory");
-    if (length)
-        memcpy(made, room, length);
-    return made;
-}
-
-int32_t __wrap_bm_next(bm_connection *connection, bm_event *event, uint8_t *room, size_t length)
+/* Contents that have no event may have been read before memory was refused, so counts may have grown. */
+int32_t __wrap_bm_next(bm_connection *connection, bm_event *event)
 {
     memset(event, 0xa5, sizeof *event);
-    memset(room, 0xa5, length);
     state before = seen(connection);
     bm_event event_before = *event;
-    uint8_t *room_before = copied(room, length);
-    int32_t code = INSIDE(__real_bm_next(connection, event, room, length));
+    int32_t code = INSIDE(__real_bm_next(connection, event));
     while (code == BM_NO_MEMORY) {
-        check_told("bm_next", &before, connection, room, room_before, length);
+        state after = seen(connection);
+        check(after.pending >= before.pending, "bm_next", "was refused memory, and has hidden some of the output");
+        check(after.report.open >= before.report.open, "bm_next", "was refused memory, and has closed something");
         check(!memcmp(event, &event_before, sizeof *event), "bm_next", "was refused memory, and has written an event");
         refused_call("bm_next\n");
-        code = INSIDE_AGAIN(__real_bm_next(connection, event, room, length));
+        code = INSIDE_AGAIN(__real_bm_next(connection, event));
         check(is_each || code != BM_NO_MEMORY, "bm_next", "is still refused memory");
     }
-    free(room_before);
-    return code;
-}
-
-int32_t __wrap_bm_next_all(bm_connection *connection, uint8_t *room, size_t length, size_t *used, uint32_t *count)
-{
-    memset(room, 0xa5, length);
-    state before = seen(connection);
-    size_t used_before = *used;
-    uint32_t count_before = *count;
-    uint8_t *room_before = copied(room, length);
-    int32_t code = INSIDE(__real_bm_next_all(connection, room, length, used, count));
-    while (code == BM_NO_MEMORY) {
-        check_told("bm_next_all", &before, connection, room, room_before, length);
-        check(*used == used_before && *count == count_before, "bm_next_all", "was refused memory, and has counted");
-        refused_call("bm_next_all\n");
-        code = INSIDE_AGAIN(__real_bm_next_all(connection, room, length, used, count));
-        check(is_each || code != BM_NO_MEMORY, "bm_next_all", "is still refused memory");
-    }
-    free(room_before);
-    return code;
-}
-
-/* Where no event could be had for want of memory, they are asked for again. */
-static void tell_again(const char *line, bm_connection *connection, uint8_t *room, size_t length, uint32_t most,
-                       bm_told *told)
-{
-    while (told->stopped == BM_STOP_NO_MEMORY) {
-        refused_call(line);
-        if (told->count)
-            return;
-        enter(is_each);
-        __real_bm_tell(connection, room, length, most, told);
-        is_inside = false;
-        check(is_each || told->stopped != BM_STOP_NO_MEMORY, "bm_tell", "is still refused memory");
-    }
-}
-
-void __wrap_bm_tell(bm_connection *connection, uint8_t *room, size_t length, uint32_t most, bm_told *told)
-{
-    state before = seen(connection);
-    if (length)
-        memset(room, 0xa5, length);
-    uint8_t *room_before = copied(room, length);
-    enter_first();
-    __real_bm_tell(connection, room, length, most, told);
-    is_inside = false;
-    if (told->stopped == BM_STOP_NO_MEMORY && !told->count)
-        check_told("bm_tell", &before, connection, room, room_before, length);
-    tell_again("bm_tell\n", connection, room, length, most, told);
-    free(room_before);
-}
-
-int32_t __wrap_bm_fed(bm_connection *connection, const uint8_t *bytes, size_t length, uint8_t *room, size_t room_length,
-                      uint32_t most, bm_told *told)
-{
-    state before = seen(connection);
-    memset(told, 0xa5, sizeof *told);
-    if (room_length)
-        memset(room, 0xa5, room_length);
-    bm_told told_before = *told;
-    uint8_t *room_before = copied(room, room_length);
-    int32_t code = INSIDE(__real_bm_fed(connection, bytes, length, room, room_length, most, told));
-    while (code == BM_NO_MEMORY) {
-        check(!has_changed(&before, connection), "bm_fed", "was refused memory, and has changed something");
-        check(!memcmp(told, &told_before, sizeof *told), "bm_fed", "was refused memory, and has told something");
-        check(!room_length || !memcmp(room, room_before, room_length), "bm_fed", "has written to the room");
-        refused_call("bm_fed\n");
-        code = INSIDE_AGAIN(__real_bm_fed(connection, bytes, length, room, room_length, most, told));
-        check(is_each || code != BM_NO_MEMORY, "bm_fed", "is still refused memory");
-    }
-    if (code == BM_OK)
-        tell_again("bm_fed\n", connection, room, room_length, most, told);
-    free(room_before);
     return code;
 }
 
@@ -367,24 +262,25 @@ static void say_one(bm_connection *connection, bm_saying *it, size_t count, cons
 {
     state before = seen(connection);
     bm_saying saying_before = *it;
-    bm_said said;
-    int32_t code = INSIDE(__real_bm_say_all(connection, it, count, bytes, length, NULL, 0, &said));
-    check(code == BM_OK && said.refused == (it->said != BM_OK), "bm_say_all", "counts wrongly");
+    size_t refused;
+    int32_t code = INSIDE(__real_bm_say_all(connection, it, count, bytes, length, &refused));
+    check(code == BM_OK && refused == (it->said != BM_OK), "bm_say_all", "counts wrongly");
     while (it->said == BM_NO_MEMORY) {
         check(!has_changed(&before, connection), "bm_say_all", "was refused memory, and has changed something");
         saying_before.said = it->said;
         check(!memcmp(it, &saying_before, sizeof *it), "bm_say_all", "was refused memory, and has written a key");
         refused_call("bm_say_all\n");
-        code = INSIDE_AGAIN(__real_bm_say_all(connection, it, count, bytes, length, NULL, 0, &said));
+        code = INSIDE_AGAIN(__real_bm_say_all(connection, it, count, bytes, length, &refused));
         check(code == BM_OK && (is_each || it->said != BM_NO_MEMORY), "bm_say_all", "is still refused memory");
     }
 }
 
 /* (each by itself, since what is said again would come behind the others) */
 int32_t __wrap_bm_say_all(bm_connection *connection, bm_saying *sayings, size_t count, const uint8_t *bytes,
-                          size_t length, uint8_t *room, size_t room_length, bm_said *said)
+                          size_t length, size_t *refused)
 {
-    size_t refused = 0, at = 0;
+    size_t at = 0;
+    *refused = 0;
     for (size_t i = 0; i < count;) {
         size_t together = 1, own = 0;
         if (sayings[i].kind == BM_SAY_BATCH)
@@ -393,15 +289,11 @@ int32_t __wrap_bm_say_all(bm_connection *connection, bm_saying *sayings, size_t 
             own += sayings[i + j].name_len + sayings[i + j].text_len;
         check(at + own <= length, "bm_say_all", "was passed too few bytes");
         say_one(connection, &sayings[i], together, own ? bytes + at : NULL, own);
-        refused += sayings[i].said != BM_OK;
+        *refused += sayings[i].said != BM_OK;
         at += own;
         i += together;
     }
-    unsigned long before = requests;
-    int32_t code = INSIDE(__real_bm_say_all(connection, NULL, 0, NULL, 0, room, room_length, said));
-    check(requests == before, "bm_say_all", "has asked for memory to take what is to be written");
-    said->refused = refused;
-    return code;
+    return BM_OK;
 }
 
 /* Calls that need no memory. */
@@ -424,14 +316,14 @@ size_t __wrap_bm_pending(bm_connection *connection)
     WITHOUT("bm_pending", size_t, __real_bm_pending(connection));
 }
 
-size_t __wrap_bm_take(bm_connection *connection, uint8_t *room, size_t length)
+size_t __wrap_bm_output(bm_connection *connection, const uint8_t **bytes)
 {
-    WITHOUT("bm_take", size_t, __real_bm_take(connection, room, length));
+    WITHOUT("bm_output", size_t, __real_bm_output(connection, bytes));
 }
 
-int32_t __wrap_bm_taken(bm_connection *connection, uint8_t *room, size_t length, size_t *count)
+int32_t __wrap_bm_written(bm_connection *connection, size_t length)
 {
-    WITHOUT("bm_taken", int32_t, __real_bm_taken(connection, room, length, count));
+    WITHOUT("bm_written", int32_t, __real_bm_written(connection, length));
 }
 
 bool __wrap_bm_fault_at(bm_connection *connection, uint64_t *offset)

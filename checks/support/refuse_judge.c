@@ -8,7 +8,7 @@
 
 void *__real_malloc(size_t);
 void *__real_realloc(void *, size_t);
-int32_t __real_bm_judge_new(const bm_judge_options *, void **);
+int32_t __real_bm_judge_open(const bm_judge_options *, void **);
 void __real_bm_judge_free(bm_judge);
 int32_t __real_bm_judge_saw(bm_judge *, uint32_t, const uint8_t *, size_t);
 int32_t __real_bm_judge_ended(bm_judge *, uint32_t, uint32_t);
@@ -51,10 +51,10 @@ void *__wrap_realloc(void *old, size_t size)
     return is_refused() ? NULL : __real_realloc(old, size);
 }
 
-int32_t __wrap_bm_judge_new(const bm_judge_options *options, void **at)
+int32_t __wrap_bm_judge_open(const bm_judge_options *options, void **at)
 {
     where = ASKING;
-    int32_t code = __real_bm_judge_new(options, at);
+    int32_t code = __real_bm_judge_open(options, at);
     where = OUTSIDE;
     return code;
 }

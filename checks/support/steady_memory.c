@@ -3,8 +3,7 @@
  * Has so many calls come to a connection, whose methods call back and are answered behind later ones; prints the
  * most memory that the process had resident, in KiB, after a twentieth of them, and in the end. (What getrusage
  * tells isn't used: it counts what the process was forked from.) With `forget` it closes no notification, so that
- * its memory has to be seen to grow. With `together`, what comes is fed and told by one call, and what is said is said
- * and taken by one. */
+ * its memory has to be seen to grow. With `together`, what is said is said by one call. */
 #include "bullmyrtle.h"
 
 #include <stdio.h>
@@ -57,14 +56,11 @@ static void reply_to(uint64_t key)
     }
 }
 
-/* Says all, and takes some of what is to be written. */
 static void say_all(void)
 {
-    static uint8_t bytes[ROOM];
-    bm_said said;
-    check(bm_say_all(&connection, sayings, saying_count, texts, text_length, bytes, sizeof bytes, &said) == BM_OK,
-          "bm_say_all");
-    check(!said.refused, "something is refused");
+    size_t refused;
+    check(bm_say_all(&connection, sayings, saying_count, texts, text_length, &refused) == BM_OK, "bm_say_all");
+    check(!refused, "something is refused");
     for (size_t i = 0; i < saying_count; i++)
         if (sayings[i].kind == BM_SAY_CALL)
             reply_to(sayings[i].key);
@@ -72,95 +68,65 @@ static void say_all(void)
 }
 
 /* The same as `request`, said later. */
-static void request_later(const bm_event *event, const uint8_t *params)
+static void request_later(const bm_event *event)
 {
     uint64_t *place = &open_ones[event->number / 2 % OPEN];
     if (*place && *place % 3)
-        say((bm_saying){.kind = BM_SAY_ANSWER, .number = *place, .text_len = event->text_len}, "", params);
+        say((bm_saying){.kind = BM_SAY_ANSWER, .number = *place, .text_len = event->text_len}, "", event->text);
     else if (*place)
-        say((bm_saying){.kind = BM_SAY_CANCEL, .number = *place}, "", params);
+        say((bm_saying){.kind = BM_SAY_CANCEL, .number = *place}, "", event->text);
     *place = event->number;
     say((bm_saying){.kind = BM_SAY_CALL, .number = event->number, .name_len = 3, .text_len = event->text_len}, "ask",
-        params);
+        event->text);
 }
 
 /* Opens a request, which calls back; the one that has been open longest is answered, or cancelled. */
-static void request(const bm_event *event, const uint8_t *params)
+static void request(const bm_event *event)
 {
     uint64_t key, *place = &open_ones[event->number / 2 % OPEN];
     if (*place && *place % 3)
-        check(bm_answer(&connection, *place, params, event->text_len) == BM_OK, "bm_answer");
+        check(bm_answer(&connection, *place, event->text, event->text_len) == BM_OK, "bm_answer");
     else if (*place)
         check(bm_cancel(&connection, *place) == BM_OK, "bm_cancel");
     *place = event->number;
     const uint8_t *method = (const uint8_t *)"ask";
-    check(bm_call(&connection, event->number, method, 3, params, event->text_len, &key) == BM_OK, "bm_call");
+    check(bm_call(&connection, event->number, method, 3, event->text, event->text_len, &key) == BM_OK, "bm_call");
     reply_to(key);
 }
 
-static void came_in(const bm_event *event, const uint8_t *texts_of_it)
+static void came_in(const bm_event *event)
 {
     if (event->kind == BM_REPLIED)
         replies++;
     if (event->kind != BM_CALL)
         return;
     came++;
-    const uint8_t *params = texts_of_it + event->name_len + 1;
     if (event->flags == BM_REQUEST && together)
-        request_later(event, params);
+        request_later(event);
     else if (event->flags == BM_REQUEST)
-        request(event, params);
+        request(event);
     else if (together)
-        say((bm_saying){.kind = BM_SAY_CLOSE, .number = event->number}, "", params);
+        say((bm_saying){.kind = BM_SAY_CLOSE, .number = event->number}, "", event->text);
     else if (!forgets)
-        check(bm_answer(&connection, event->number, params, 0) == BM_OK, "bm_answer of a notification");
+        check(bm_close_call(&connection, event->number) == BM_OK, "bm_close_call");
 }
-
-static void came_many(const uint8_t *room, uint32_t count)
-{
-    for (const uint8_t *at = room; count--;) {
-        bm_event event;
-        memcpy(&event, at, sizeof event);
-        came_in(&event, at + sizeof event);
-        at += (sizeof event + event.name_len + event.text_len + event.id_len + 3 + 7) / 8 * 8;
-    }
-}
-
-static uint64_t room[ROOM / sizeof(uint64_t)];
 
 static void hear(void)
 {
-    size_t used;
-    uint32_t count;
+    bm_event event;
     for (;;) {
-        check(bm_next_all(&connection, (uint8_t *)room, sizeof room, &used, &count) == BM_OK, "bm_next_all");
-        if (!count)
+        check(bm_next(&connection, &event) == BM_OK, "bm_next");
+        if (event.kind == BM_NONE)
             return;
-        came_many((uint8_t *)room, count);
+        came_in(&event);
     }
-}
-
-/* Feeds and hears, 16 events at a time. */
-static void feed_and_hear(const char *text)
-{
-    bm_told told;
-    feed(text);
-    check(bm_fed(&connection, (const uint8_t *)"\n", 1, (uint8_t *)room, sizeof room, 16, &told) == BM_OK, "bm_fed");
-    for (;;) {
-        came_many((uint8_t *)room, told.count);
-        if (told.stopped == BM_STOP_NONE)
-            break;
-        check(told.stopped == BM_STOP_MOST || told.stopped == BM_STOP_ROOM, "it stopped otherwise");
-        bm_tell(&connection, (uint8_t *)room, sizeof room, 16, &told);
-    }
-    say_all();
 }
 
 static void put(void)
 {
-    static uint8_t bytes[ROOM];
-    while (bm_take(&connection, bytes, sizeof bytes)) {
-    }
+    const uint8_t *bytes;
+    for (size_t length; (length = bm_output(&connection, &bytes));)
+        check(bm_written(&connection, length) == BM_OK, "bm_written");
 }
 
 static long most_memory(void)
@@ -177,12 +143,12 @@ static long most_memory(void)
 
 int main(int count, char **words)
 {
-    bm_settings settings = {.framing = BM_LINES, .takes_cancels = 1};
-    check(count == 2 || count == 3, "usage: steady_memory CALLS [forget]");
+    bm_options options = {.size = sizeof options, .framing = BM_LINES, .cancels = BM_CANCELS_LSP};
+    check(count == 2 || count == 3, "usage: steady_memory CALLS [forget|together]");
     uint64_t calls = strtoull(words[1], NULL, 10);
     forgets = count == 3 && !strcmp(words[2], "forget");
     together = count == 3 && !strcmp(words[2], "together");
-    check(bm_new(&settings, &connection.at) == BM_OK, "bm_new");
+    check(bm_open(&options, &connection.at) == BM_OK, "bm_open");
     long early = 0;
     for (uint64_t i = 1; came < calls; i++) {
         char line[300];
@@ -190,14 +156,12 @@ int main(int count, char **words)
                  "[{\"jsonrpc\":\"2.0\",\"method\":\"m\",\"params\":[%llu,{\"a\":\"text\"}],\"id\":%llu},"
                  "{\"jsonrpc\":\"2.0\",\"method\":\"n\",\"params\":[\"a text that is kept as long as it is open\"]}]",
                  (unsigned long long)i, (unsigned long long)i);
-        if (together)
-            feed_and_hear(line);
-        else
-            feed(line);
+        feed(line);
         if (i % 10 == 0)
             feed("broken");
-        if (!together)
-            hear();
+        hear();
+        if (together)
+            say_all();
         put();
         if (!early && came >= calls / 20)
             early = most_memory();

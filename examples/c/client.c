@@ -40,10 +40,6 @@ typedef struct {
     uint64_t key;
     int status; /* -1 until there is a reply, or can be none */
     bool is_unanswered;
-    uint8_t bytes[4096];
-    size_t first, last; /* what was taken and isn't written yet */
-    uint8_t *room;      /* for an event's texts */
-    size_t size;
 } client;
 
 static void fail(const char *why)
@@ -58,20 +54,15 @@ static void check(int32_t code)
         fail(bm_code_text(code));
 }
 
-static void make_room(client *it, size_t size)
+static void print(const bm_event *event)
 {
-    if (!(it->room = realloc(it->room, size)))
-        fail("out of memory");
-    it->size = size;
-}
-
-static void print(const bm_event *event, const uint8_t *room)
-{
-    const char *name = (const char *)room, *text = name + event->name_len + 1;
-    if (event->flags & BM_ERROR)
-        printf("error %lld %s%s%s\n", (long long)event->code, name, *text ? " " : "", text);
-    else
-        printf("%s\n", text);
+    if (event->flags & BM_ERROR) {
+        printf("error %lld ", (long long)event->code);
+        fwrite(event->name, 1, event->name_len, stdout);
+        fputs(event->text_len ? " " : "", stdout);
+    }
+    fwrite(event->text, 1, event->text_len, stdout);
+    putchar('\n');
 }
 
 /* How many milliseconds are left: 0 where the time is over. */
@@ -95,15 +86,15 @@ static void explain(client *it, uint32_t over)
     it->status = 2;
 }
 
-static void handle(client *it, const bm_event *event, const uint8_t *room)
+static void handle(client *it, const bm_event *event)
 {
     static const uint8_t message[] = "Method not found";
     switch (event->kind) {
     case BM_CALL: /* it has no methods; this closes a notification too */
-        check(bm_fail(&it->connection, event->number, -32601, message, sizeof message - 1, message, 0));
+        check(bm_fail(&it->connection, event->number, -32601, message, sizeof message - 1, NULL, 0));
         break;
     case BM_REPLIED:
-        print(event, room);
+        print(event);
         it->status = event->flags & BM_ERROR ? 1 : 0;
         break;
     case BM_UNANSWERED:
@@ -119,17 +110,8 @@ static void handle(client *it, const bm_event *event, const uint8_t *room)
 static void hear(client *it)
 {
     bm_event event;
-    for (;;) {
-        int32_t code = bm_next(&it->connection, &event, it->room, it->size);
-        if (code == BM_SMALL) {
-            make_room(it, event.name_len + event.text_len + event.id_len + 3);
-            continue;
-        }
-        check(code);
-        if (event.kind == BM_NONE)
-            return;
-        handle(it, &event, it->room);
-    }
+    while (check(bm_next(&it->connection, &event)), event.kind != BM_NONE)
+        handle(it, &event);
 }
 
 static void read_some(client *it)
@@ -149,11 +131,7 @@ static void read_some(client *it)
 
 static bool has_output(client *it)
 {
-    if (it->first == it->last) {
-        it->first = 0;
-        it->last = bm_take(&it->connection, it->bytes, sizeof it->bytes);
-    }
-    return it->first < it->last;
+    return bm_pending(&it->connection) > 0;
 }
 
 static void close_output(client *it)
@@ -164,9 +142,11 @@ static void close_output(client *it)
 
 static void write_some(client *it)
 {
-    ssize_t count = write(it->out, it->bytes + it->first, it->last - it->first);
+    const uint8_t *bytes;
+    size_t length = bm_output(&it->connection, &bytes);
+    ssize_t count = write(it->out, bytes, length);
     if (count >= 0)
-        it->first += (size_t)count;
+        check(bm_written(&it->connection, (size_t)count));
     else if (errno != EAGAIN && errno != EINTR)
         close_output(it); /* the server reads no more; it may still have written a reply */
 }
@@ -266,19 +246,17 @@ static request read_words(int count, char **words)
 int main(int count, char **words)
 {
     request asked = read_words(count, words);
-    bm_settings settings = {.framing = asked.frames ? BM_FRAMES : BM_LINES};
+    bm_options options = {.size = sizeof options, .framing = asked.frames ? BM_FRAMES : BM_LINES};
     client it = {.seconds = asked.seconds, .status = -1};
     clock_gettime(CLOCK_MONOTONIC, &it.end);
     it.end.tv_sec += it.seconds;
-    check(bm_new(&settings, &it.connection.at));
+    check(bm_open(&options, &it.connection.at));
     check(bm_call(&it.connection, 0, (const uint8_t *)asked.method, strlen(asked.method), (const uint8_t *)asked.params,
                   strlen(asked.params), &it.key));
-    make_room(&it, 4096);
     signal(SIGPIPE, SIG_IGN); /* a write to a server that is gone fails, and doesn't end the client */
     pid_t server = start(&it, asked.server);
     serve(&it);
     end(&it, server);
-    free(it.room);
     bm_free(it.connection);
     return it.status;
 }

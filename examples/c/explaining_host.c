@@ -10,7 +10,7 @@
 
 static bm_connection connection;
 
-/* What can't go on ends the program: there is no memory, or the output is gone. */
+/* A call that is refused ends the program: there is no memory. */
 static void check(int32_t code)
 {
     if (code != BM_OK) {
@@ -19,20 +19,18 @@ static void check(int32_t code)
     }
 }
 
-static void handle(const bm_event *event, const uint8_t *room)
+static void handle(const bm_event *event)
 {
     static const char message[] = "Method not found";
-    const char *name = (const char *)room;
-    const uint8_t *params = room + event->name_len + 1;
     if (!(event->flags & BM_REQUEST))
         check(bm_close_call(&connection, event->number)); /* done with the notification */
-    else if (!strcmp(name, "echo") && event->text_len)
-        check(bm_answer(&connection, event->number, params, event->text_len));
+    else if (event->name_len == 4 && !memcmp(event->name, "echo", 4) && event->text_len)
+        check(bm_answer(&connection, event->number, event->text, event->text_len));
     else
-        check(bm_fail(&connection, event->number, -32601, (const uint8_t *)message, sizeof message - 1, params, 0));
+        check(bm_fail(&connection, event->number, -32601, (const uint8_t *)message, sizeof message - 1, NULL, 0));
 }
 
-static void explain(const bm_event *event, const uint8_t *start)
+static void explain(const bm_event *event)
 {
     fprintf(stderr, "byte %llu: ", (unsigned long long)event->number);
     if (event->flags == BM_INVALID)
@@ -41,7 +39,7 @@ static void explain(const bm_event *event, const uint8_t *start)
     else
         fprintf(stderr, "unreadable: ");
     for (size_t i = 0; i < event->text_len; i++)
-        putc(isprint(start[i]) ? start[i] : '?', stderr); /* (they may be any bytes) */
+        putc(isprint(event->text[i]) ? event->text[i] : '?', stderr); /* (they may be any bytes) */
     putc('\n', stderr);
 }
 
@@ -54,35 +52,30 @@ static void end(const bm_event *event)
 
 static void hear(void)
 {
-    static uint8_t room[1 << 20]; /* a content has at most as many bytes, so each event fits */
     bm_event event;
-    for (;;) {
-        check(bm_next(&connection, &event, room, sizeof room));
+    while (check(bm_next(&connection, &event)), event.kind != BM_NONE)
         switch (event.kind) {
-        case BM_NONE:
-            return;
         case BM_CALL:
-            handle(&event, room);
+            handle(&event);
             break;
         case BM_BROKEN:
-            explain(&event, room + event.name_len + 1);
+            explain(&event);
             break;
         case BM_INPUT_OVER:
             end(&event);
             break;
         }
-    }
 }
 
 static void put(void)
 {
-    uint8_t bytes[4096];
-    size_t count;
-    while ((count = bm_take(&connection, bytes, sizeof bytes)))
-        if (fwrite(bytes, 1, count, stdout) != count)
+    const uint8_t *bytes;
+    for (size_t length; (length = bm_output(&connection, &bytes)) > 0;) {
+        ssize_t count = write(STDOUT_FILENO, bytes, length);
+        if (count < 0)
             exit(1);
-    if (fflush(stdout))
-        exit(1);
+        check(bm_written(&connection, (size_t)count));
+    }
 }
 
 int main(void)

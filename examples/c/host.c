@@ -8,7 +8,7 @@
 
 static bm_connection connection;
 
-/* What can't go on ends the program: there is no memory, or the output is gone. */
+/* A call that is refused ends the program: there is no memory. */
 static void check(int32_t code)
 {
     if (code != BM_OK) {
@@ -17,56 +17,38 @@ static void check(int32_t code)
     }
 }
 
-static void handle(const bm_event *event, const uint8_t *room)
+static void handle(const bm_event *event)
 {
     static const char message[] = "Method not found";
-    const char *name = (const char *)room;
-    const uint8_t *params = room + event->name_len + 1;
     if (!(event->flags & BM_REQUEST))
         check(bm_close_call(&connection, event->number)); /* done with the notification */
-    else if (!strcmp(name, "echo") && event->text_len)
-        check(bm_answer(&connection, event->number, params, event->text_len));
+    else if (event->name_len == 4 && !memcmp(event->name, "echo", 4) && event->text_len)
+        check(bm_answer(&connection, event->number, event->text, event->text_len));
     else
-        check(bm_fail(&connection, event->number, -32601, (const uint8_t *)message, sizeof message - 1, params, 0));
-}
-
-static void hear(void)
-{
-    static uint8_t room[1 << 24]; /* a content has at most as many bytes, so each event fits */
-    bm_event event;
-    for (;;) {
-        check(bm_next(&connection, &event, room, sizeof room));
-        if (event.kind == BM_NONE)
-            return;
-        if (event.kind == BM_CALL)
-            handle(&event, room);
-    }
-}
-
-static void put(void)
-{
-    uint8_t bytes[4096];
-    size_t count;
-    while ((count = bm_take(&connection, bytes, sizeof bytes)))
-        if (fwrite(bytes, 1, count, stdout) != count)
-            exit(1);
-    if (fflush(stdout))
-        exit(1);
+        check(bm_fail(&connection, event->number, -32601, (const uint8_t *)message, sizeof message - 1, NULL, 0));
 }
 
 int main(void)
 {
-    bm_settings settings = {.framing = BM_LINES};
-    uint8_t bytes[4096];
-    check(bm_new(&settings, &connection.at));
+    bm_options options = {.size = sizeof options, .framing = BM_LINES};
+    bm_event event;
+    uint8_t input[4096];
+    const uint8_t *output;
+    check(bm_open(&options, &connection.at));
     while (!bm_is_done(&connection)) {
-        ssize_t count = read(STDIN_FILENO, bytes, sizeof bytes);
+        ssize_t count = read(STDIN_FILENO, input, sizeof input);
         if (count > 0)
-            check(bm_feed(&connection, bytes, (size_t)count));
+            check(bm_feed(&connection, input, (size_t)count));
         else
             check(bm_end(&connection, count ? BM_READ_FAILED : BM_CLOSED));
-        hear();
-        put();
+        while (check(bm_next(&connection, &event)), event.kind != BM_NONE)
+            if (event.kind == BM_CALL)
+                handle(&event);
+        for (size_t length; (length = bm_output(&connection, &output)) > 0;) {
+            if ((count = write(STDOUT_FILENO, output, length)) < 0)
+                return 1; /* the output is gone */
+            check(bm_written(&connection, (size_t)count));
+        }
     }
     bm_free(connection);
     return 0;

@@ -19,7 +19,7 @@ static void serve()
     bm_options options{};
     options.framing = BM_LINES;
     bullmyrtle::connection connection(options);
-    for (std::string line, output; !connection.is_done(); output.clear()) {
+    for (std::string line; !connection.is_done();) {
         if (std::getline(std::cin, line))
             connection.feed(std::cin.eof() ? line : line + "\n"); // (the last line may have no end)
         else
@@ -27,8 +27,11 @@ static void serve()
         while (auto event = connection.next())
             if (event->kind == BM_CALL)
                 handle(connection, *event);
-        connection.take(output);
-        std::cout << output << std::flush;
+        for (auto output = connection.output(); !output.empty(); output = connection.output()) {
+            std::cout << output;
+            connection.written(output.size());
+        }
+        std::cout << std::flush;
     }
 }
 

@@ -50,11 +50,11 @@ int main(void)
 {
     bm_judge judge;
     bm_judge_options options = {.size = sizeof options, .rules = BM_RULES_JSONRPC, .framing = BM_LINES};
-    if (bm_interface() != BM_INTERFACE || !bm_has(BM_HAS_JUDGE)) {
-        fprintf(stderr, "judging: the library has no judge\n");
+    if (bm_interface() != BM_INTERFACE) {
+        fprintf(stderr, "judging: the library has another interface\n");
         return 2;
     }
-    check(bm_judge_new(&options, &judge.at));
+    check(bm_judge_open(&options, &judge.at));
     bool is_broken = false;
     char *line = NULL;
     size_t size = 0;

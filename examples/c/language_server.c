@@ -21,8 +21,6 @@ typedef struct hover {
 
 static bm_connection connection;
 static hover *hovers;
-static uint8_t *room; /* for an event's texts */
-static size_t room_size;
 static bool is_initialized, is_shut_down, has_exit;
 
 /* Ends the program where it can't go on: there is no memory, or the streams are gone. */
@@ -43,12 +41,6 @@ static void *some(void *made)
     if (!made)
         fail("out of memory");
     return made;
-}
-
-static void make_room(size_t size)
-{
-    room = some(realloc(room, size));
-    room_size = size;
 }
 
 /* Each of these frees the value that it says. */
@@ -75,7 +67,7 @@ static void notify(const char *method, cJSON *params)
 
 static void refuse(uint64_t number, int64_t code, const char *message)
 {
-    check(bm_fail(&connection, number, code, (const uint8_t *)message, strlen(message), (const uint8_t *)"", 0));
+    check(bm_fail(&connection, number, code, (const uint8_t *)message, strlen(message), NULL, 0));
 }
 
 static cJSON *member(const cJSON *value, const char *name)
@@ -188,39 +180,47 @@ static void diagnose(const char *uri, const char *text)
 
 /* ---- events */
 
-static void request(uint64_t number, const char *method, const cJSON *params)
+/* (a method's name has no zero byte behind it) */
+static bool is_method(const bm_event *event, const char *name)
 {
-    if (!strcmp(method, "initialize") && !is_initialized) {
+    return event->name_len == strlen(name) && !memcmp(event->name, name, event->name_len);
+}
+
+static void request(const bm_event *event, const cJSON *params)
+{
+    const uint64_t number = event->number;
+    const bool is_initialize = is_method(event, "initialize");
+    if (is_initialize && !is_initialized) {
         if (cJSON_IsObject(params))
             initialize(number);
         else
             refuse(number, INVALID_PARAMS, "params: expected an object");
     } else if (!is_initialized)
         refuse(number, NOT_INITIALIZED, "not initialized");
-    else if (is_shut_down || !strcmp(method, "initialize"))
+    else if (is_shut_down || is_initialize)
         refuse(number, INVALID_REQUEST, "not at this time");
-    else if (!strcmp(method, "textDocument/hover")) {
+    else if (is_method(event, "textDocument/hover")) {
         const char *fault = fault_of(params);
         if (fault)
             refuse(number, INVALID_PARAMS, fault);
         else
             hover_at(number);
-    } else if (!strcmp(method, "shutdown")) {
+    } else if (is_method(event, "shutdown")) {
         is_shut_down = true;
         answer(number, cJSON_CreateNull());
     } else
         refuse(number, METHOD_NOT_FOUND, "no such method");
 }
 
-static void notification(const char *method, const cJSON *params)
+static void notification(const bm_event *event, const cJSON *params)
 {
     const cJSON *document = member(params, "textDocument");
     const char *uri = string_in(document, "uri"), *text = NULL;
-    if (!strcmp(method, "exit"))
+    if (is_method(event, "exit"))
         has_exit = true;
-    else if (!strcmp(method, "textDocument/didOpen"))
+    else if (is_method(event, "textDocument/didOpen"))
         text = string_in(document, "text");
-    else if (!strcmp(method, "textDocument/didChange")) {
+    else if (is_method(event, "textDocument/didChange")) {
         const cJSON *changes = member(params, "contentChanges");
         text = string_in(cJSON_GetArrayItem(changes, cJSON_GetArraySize(changes) - 1), "text");
     }
@@ -239,7 +239,7 @@ static void cancelled(uint64_t number)
 
 static void handle(const bm_event *event)
 {
-    const char *name = (const char *)room, *text = name + event->name_len + 1;
+    const char *text = (const char *)event->text;
     cJSON *value = event->text_len ? some(cJSON_ParseWithLength(text, event->text_len)) : NULL;
     if (event->kind == BM_CANCELLED)
         cancelled(event->number);
@@ -248,9 +248,9 @@ static void handle(const bm_event *event)
     else if (event->kind == BM_UNANSWERED)
         configured(event->key, true, NULL);
     else if (event->kind == BM_CALL && event->flags & BM_REQUEST)
-        request(event->number, name, value);
+        request(event, value);
     else if (event->kind == BM_CALL) {
-        notification(name, value);
+        notification(event, value);
         check(bm_close_call(&connection, event->number)); /* done with the notification */
     }
     cJSON_Delete(value);
@@ -259,39 +259,28 @@ static void handle(const bm_event *event)
 static void hear(void)
 {
     bm_event event;
-    while (!has_exit) {
-        int32_t code = bm_next(&connection, &event, room, room_size);
-        if (code == BM_SMALL) {
-            make_room(event.name_len + event.text_len + event.id_len + 3);
-            continue;
-        }
-        check(code);
-        if (event.kind == BM_NONE)
-            return;
+    while (!has_exit && (check(bm_next(&connection, &event)), event.kind != BM_NONE))
         handle(&event);
-    }
 }
 
 static void put(void)
 {
-    uint8_t bytes[65536];
-    for (size_t count; (count = bm_take(&connection, bytes, sizeof bytes));)
-        for (size_t done = 0; done < count;) {
-            ssize_t more = write(STDOUT_FILENO, bytes + done, count - done);
-            if (more < 0)
-                fail("the output is gone");
-            done += (size_t)more;
-        }
+    const uint8_t *bytes;
+    for (size_t length; (length = bm_output(&connection, &bytes)) > 0;) {
+        ssize_t count = write(STDOUT_FILENO, bytes, length);
+        if (count < 0)
+            fail("the output is gone");
+        check(bm_written(&connection, (size_t)count));
+    }
 }
 
 int main(void)
 {
-    bm_settings settings = {.framing = BM_FRAMES, .takes_cancels = 1};
+    bm_options options = {.size = sizeof options, .framing = BM_FRAMES, .cancels = BM_CANCELS_LSP};
     uint8_t bytes[65536];
     if (bm_interface() != BM_INTERFACE)
         fail("the library has another interface");
-    make_room(4096);
-    check(bm_new(&settings, &connection.at));
+    check(bm_open(&options, &connection.at));
     while (!has_exit && !bm_is_done(&connection)) {
         ssize_t count = read(STDIN_FILENO, bytes, sizeof bytes);
         if (count > 0)
@@ -303,7 +292,6 @@ int main(void)
     }
     while (hovers)
         free(take_hover(hovers->key, 0));
-    free(room);
     bm_free(connection);
     return is_shut_down ? 0 : 1;
 }

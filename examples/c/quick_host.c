@@ -1,6 +1,5 @@
-/* What host.c does, with two calls of the library for a few messages: one feeds a piece and tells what came, and one
- * says all that there is to say and takes what is to be written. From C a call costs next to nothing, and host.c is as
- * quick: it is made so in languages from which a call is costly. */
+/* What host.c does, with one call of the library for all that there is to say of a piece. From C a call costs next to
+ * nothing, and host.c is as quick: it is made so in languages from which a call is costly. */
 #include "bullmyrtle.h"
 
 #include <stdio.h>
@@ -8,21 +7,15 @@
 #include <string.h>
 #include <unistd.h>
 
-/* (what is told is open all at once, and few open calls take less time than many) */
-enum { MOST = 16, ROOM = 1 << 24 };
-
 static bm_connection connection;
 
-/* Events lie at multiples of 8 bytes. A content has at most as many bytes as the room, so each event fits. */
-static uint64_t room[ROOM / sizeof(uint64_t)];
-
-/* What is to be said of so many events, with texts that came in the room, or with a message. */
-static const char message[] = "Method not found";
-static bm_saying sayings[MOST];
-static uint8_t texts[ROOM + MOST * sizeof message];
+/* What is to be said, and the names and texts of it one behind the other. They are copied, since the texts of an event
+ * are lent only until the next one. */
+static bm_saying *sayings;
+static uint8_t *texts;
 static size_t count, length;
 
-/* What can't go on ends the program: there is no memory, or the output is gone. */
+/* A call that is refused ends the program: there is no memory. */
 static void check(int32_t code)
 {
     if (code != BM_OK) {
@@ -31,77 +24,83 @@ static void check(int32_t code)
     }
 }
 
-/* The name and the text of each lie behind those before it. */
+static void *sized(void *at, size_t size)
+{
+    void *made = realloc(at, size);
+    check(made ? BM_OK : BM_NO_MEMORY);
+    return made;
+}
+
 static void say(bm_saying it, const void *name, const void *text)
 {
+    sayings = sized(sayings, (count + 1) * sizeof it);
+    texts = sized(texts, length + it.name_len + it.text_len + 1);
     memcpy(texts + length, name, it.name_len);
     memcpy(texts + length + it.name_len, text, it.text_len);
     length += it.name_len + it.text_len;
     sayings[count++] = it;
 }
 
-static void handle(const bm_event *event, const char *name, const uint8_t *params)
+static void handle(const bm_event *event)
 {
-    if (!(event->flags & BM_REQUEST))
-        say((bm_saying){.kind = BM_SAY_CLOSE, .number = event->number}, "", "");
-    else if (!strcmp(name, "echo") && event->text_len)
-        say((bm_saying){.kind = BM_SAY_ANSWER, .number = event->number, .text_len = event->text_len}, "", params);
-    else
-        say((bm_saying){.kind = BM_SAY_FAIL, .number = event->number, .code = -32601, .name_len = sizeof message - 1},
-            message, "");
-}
-
-static void hear(const bm_told *told)
-{
-    const uint8_t *at = (const uint8_t *)room;
-    for (uint32_t i = 0; i < told->count; i++) {
-        bm_event event;
-        memcpy(&event, at, sizeof event);
-        const uint8_t *name = at + sizeof event;
-        if (event.kind == BM_CALL)
-            handle(&event, (const char *)name, name + event.name_len + 1);
-        at += (sizeof event + event.name_len + event.text_len + event.id_len + 3 + 7) / 8 * 8;
+    static const char message[] = "Method not found";
+    bm_saying it = {.number = event->number};
+    if (!(event->flags & BM_REQUEST)) {
+        it.kind = BM_SAY_CLOSE; /* done with the notification */
+        say(it, "", "");
+    } else if (event->name_len == 4 && !memcmp(event->name, "echo", 4) && event->text_len) {
+        it.kind = BM_SAY_ANSWER;
+        it.text_len = event->text_len;
+        say(it, "", event->text);
+    } else {
+        it.kind = BM_SAY_FAIL;
+        it.code = -32601;
+        it.name_len = sizeof message - 1;
+        say(it, message, "");
     }
 }
 
-/* Says all, and writes what there is to write. */
+/* Says all that came of a piece. */
+static void answer(void)
+{
+    bm_event event;
+    size_t refused;
+    count = length = 0;
+    while (check(bm_next(&connection, &event)), event.kind != BM_NONE)
+        if (event.kind == BM_CALL)
+            handle(&event);
+    check(bm_say_all(&connection, sayings, count, texts, length, &refused));
+    for (size_t at = 0; refused && at < count; at++)
+        check(sayings[at].said);
+}
+
 static void put(void)
 {
-    uint8_t bytes[4096];
-    bm_said said;
-    do {
-        check(bm_say_all(&connection, sayings, count, texts, length, bytes, sizeof bytes, &said));
-        count = length = 0;
-        if (fwrite(bytes, 1, said.taken, stdout) != said.taken)
+    const uint8_t *bytes;
+    for (size_t lent; (lent = bm_output(&connection, &bytes)) > 0;) {
+        ssize_t written = write(STDOUT_FILENO, bytes, lent);
+        if (written < 0)
             exit(1);
-    } while (said.pending);
-    if (fflush(stdout))
-        exit(1);
+        check(bm_written(&connection, (size_t)written));
+    }
 }
 
 int main(void)
 {
-    bm_settings settings = {.framing = BM_LINES};
+    bm_options options = {.size = sizeof options, .framing = BM_LINES};
     uint8_t bytes[4096];
-    bm_told told;
-    check(bm_new(&settings, &connection.at));
+    check(bm_open(&options, &connection.at));
     while (!bm_is_done(&connection)) {
-        ssize_t read_now = read(STDIN_FILENO, bytes, sizeof bytes);
-        if (read_now > 0)
-            check(bm_fed(&connection, bytes, (size_t)read_now, (uint8_t *)room, sizeof room, MOST, &told));
-        else {
-            check(bm_end(&connection, read_now ? BM_READ_FAILED : BM_CLOSED));
-            bm_tell(&connection, (uint8_t *)room, sizeof room, MOST, &told);
-        }
-        hear(&told);
+        ssize_t came = read(STDIN_FILENO, bytes, sizeof bytes);
+        if (came > 0)
+            check(bm_feed(&connection, bytes, (size_t)came));
+        else
+            check(bm_end(&connection, came ? BM_READ_FAILED : BM_CLOSED));
+        answer();
         put();
-        while (told.stopped != BM_STOP_NONE) {
-            check(told.stopped == BM_STOP_NO_MEMORY ? BM_NO_MEMORY : BM_OK);
-            bm_tell(&connection, (uint8_t *)room, sizeof room, MOST, &told);
-            hear(&told);
-            put();
-        }
     }
+    free(sayings);
+    free(texts);
     bm_free(connection);
     return 0;
 }

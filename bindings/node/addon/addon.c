@@ -2,7 +2,8 @@
  *
  * Two crossings carry a piece of input and all that is said of it:
  *   fed    bytes in; out come the heads of events, as numbers in an array, and their texts as ONE string, whose first
- *          part may be an array of JSON that has the params and results of all
+ *          part is an array of JSON that has the params and results of all; a large event's texts are strings of its
+ *          own, made from where the library lends them
  *   say    answers, calls, notifications and withdrawals in, as numbers in an array and ONE string; bytes out
  * since a crossing costs little, and a string much. The other calls are those of the header, one by one.
  *
@@ -17,18 +18,19 @@
 enum { BEFORE_HEADS = 4, HEAD = 6, MOST_EVENTS = 64 };
 /* The same of what is said. */
 enum { BEFORE_SAYINGS = 1, SAYING = 3, MOST_SAYINGS = 1024 };
-/* An event takes 64 bytes at least, so no more of them fit such a room than there are heads for. What is told of broken
- * input is longer as a text than as bytes, and less than twice as long as its event. */
-enum { EVENTS_ROOM = 64 * MOST_EVENTS, TOLD_ROOM = 2 * EVENTS_ROOM, TEXTS_ROOM = 1 << 16 };
-/* A room that had to grow over this is given back once it was used. One below it is kept: a block of some megabytes
- * that is given back at each message costs more in faults of its pages than it holds. */
+/* The room for texts that cross together. Of events, names and ids have the last part of it, and bodies the first. */
+enum { ROOM = 1 << 16, NAMES_ROOM = 1 << 13, BODIES_ROOM = ROOM - NAMES_ROOM };
+/* A room for what is said that had to grow over this is given back once it was used. One below it is kept: a block of
+ * some megabytes that is given back at each message costs more in faults of its pages than it holds. */
 enum { KEPT = 1 << 23 };
+/* What is told of broken input: an index of 20 digits at most, and 64 letters of two bytes. */
+enum { BROKEN_ROOM = 20 + 2 * 64 };
 /* What V8 is told that a connection holds outside of its heap. */
 enum { OUTSIDE = 4096 };
 /* Bits of a kind that is told, beside the event's kind and, 16 times, its flags. */
 enum { FLAG = 16, LARGE_CODE = 256 };
-/* What may be said. With ALONE the second text is absent. */
-enum { ANSWER = 1, FAIL, CALL, NOTIFY, WITHDRAW, CANCEL, CLOSE, ALONE = 16 };
+/* Beside the kind of a saying that may have two texts: the second is absent. */
+enum { ALONE = 16 };
 
 typedef struct {
     uint8_t *at;
@@ -37,16 +39,18 @@ typedef struct {
 
 /* What the connections of a thread share. */
 typedef struct {
-    bytes events;   /* events, as bm_next_all packs them */
-    bytes texts;    /* texts on their way from or to a string */
-    bytes sayings;  /* what is said, as bm_say_all takes it */
-    double **heads; /* arrays of JavaScript that are never given back, one for each depth of nesting */
+    uint8_t room[ROOM];           /* texts that cross together, on their way to a string or from one */
+    uint8_t letters[BROKEN_ROOM]; /* what is told of broken input */
+    bytes texts;                  /* what is said and has no room there */
+    bytes sayings;                /* what is said, as bm_say_all takes it */
+    double **heads;               /* arrays of JavaScript that are never given back, one for each depth of nesting */
     size_t heads_count;
     double *says;
 } shared;
 
 typedef struct {
     bm_connection at;
+    bool is_contents;
 } connection;
 
 /* What a crossing is made with. */
@@ -107,18 +111,12 @@ static bool flag(napi_env env, napi_value value)
     return got;
 }
 
-/* The bytes of a Uint8Array. They are never at NULL. (napi_get_buffer_info ends the process where it gets anything
- * else, up to Node.js 18.) */
+/* The bytes of a Uint8Array. (napi_get_buffer_info ends the process where it gets anything else, up to Node.js 18.) */
 static bool bytes_of(napi_env env, napi_value value, bytes *got)
 {
-    static uint8_t nothing[1];
     napi_typedarray_type type;
     napi_status status = napi_get_typedarray_info(env, value, &type, &got->length, (void **)&got->at, NULL, NULL);
-    if (status != napi_ok || type != napi_uint8_array)
-        return false;
-    if (got->at == NULL)
-        got->at = nothing;
-    return true;
+    return status == napi_ok && type == napi_uint8_array;
 }
 
 /* Makes a room at least so long. What it held is gone. */
@@ -167,30 +165,13 @@ static void forget(napi_env env, void *data, void *hint)
     free(it);
 }
 
-/* What a connection is made with. */
-typedef struct {
-    uint32_t framing, order, cancels, content, broken, entries, null_params;
-    uint64_t calls;
-} ways;
-
-static int32_t make(const ways *it, void **at)
-{
-    bm_options options = {.size = sizeof options, .framing = it->framing, .order = it->order, .cancels = it->cancels};
-    options.broken = it->broken;
-    options.content = it->content;
-    options.calls = it->calls;
-    options.entries = it->entries;
-    options.null_params = it->null_params;
-    return bm_open(&options, at);
-}
-
 /* open(framing, order, cancels, content, calls, broken, entries, nullParams): a handle, or a code */
 static napi_value open_one(napi_env env, napi_callback_info info)
 {
     napi_value given[8], made = NULL;
     size_t count = 8;
     int64_t now;
-    ways asked = {0};
+    bm_options asked = {.size = sizeof asked};
     napi_get_cb_info(env, info, &count, given, NULL, NULL);
     napi_get_value_uint32(env, given[0], &asked.framing);
     napi_get_value_uint32(env, given[1], &asked.order);
@@ -203,7 +184,8 @@ static napi_value open_one(napi_env env, napi_callback_info info)
     connection *it = calloc(1, sizeof *it);
     if (it == NULL)
         return number(env, BM_NO_MEMORY);
-    int32_t code = make(&asked, &it->at.at);
+    it->is_contents = asked.framing == BM_CONTENTS;
+    int32_t code = bm_open(&asked, &it->at.at);
     if (code != BM_OK) {
         free(it);
         return number(env, code);
@@ -227,38 +209,7 @@ static napi_value close_one(napi_env env, napi_callback_info info)
 
 /* Events */
 
-/* Asks for as many events as fit the room, behind a piece of input where there is one. */
-static int32_t tell(bm_connection *at, const bytes *piece, bytes *room, size_t length, bm_told *told)
-{
-    if (piece)
-        return bm_fed(at, piece->at, piece->length, room->at, length, MOST_EVENTS, told);
-    bm_tell(at, room->at, length, MOST_EVENTS, told);
-    return BM_OK;
-}
-
-static int32_t ask(bm_connection *at, const bytes *piece, shared *rooms, uint32_t *count, bool *has_more, bool *is_fed)
-{
-    bytes *room = &rooms->events;
-    bm_told told = {0};
-    *count = 0;
-    if (!grow(room, EVENTS_ROOM) || !grow(&rooms->texts, TOLD_ROOM)) /* (the second for what string_of_all puts) */
-        return BM_NO_MEMORY;
-    int32_t code = tell(at, piece, room, EVENTS_ROOM, &told);
-    *is_fed = code == BM_OK;
-    if (code == BM_OK && told.count == 0 && told.stopped == BM_STOP_ROOM) {
-        size_t need = told.needed; /* just as much as is needed, so that one event alone is told */
-        if (!grow(room, need))
-            return BM_NO_MEMORY;
-        tell(at, NULL, room, need, &told);
-    }
-    if (code != BM_OK)
-        return code;
-    *count = told.count;
-    *has_more = told.stopped != BM_STOP_NONE;
-    return told.count == 0 && told.stopped == BM_STOP_NO_MEMORY ? BM_NO_MEMORY : BM_OK;
-}
-
-/* Writes an event's head. Its lengths are those of bytes. */
+/* Writes an event's head, but the lengths of its texts. */
 static void put_head(const bm_event *event, double *head)
 {
     const int64_t largest = ((int64_t)1 << 53) - 1;
@@ -269,9 +220,6 @@ static void put_head(const bm_event *event, double *head)
     head[2] = (double)event->code;
     if (is_large)
         memcpy(&head[2], &event->code, sizeof event->code);
-    head[3] = (double)event->name_len;
-    head[4] = (double)event->text_len;
-    head[5] = (double)event->id_len;
 }
 
 static const uint64_t HIGH_BITS = 0x8080808080808080;
@@ -298,9 +246,6 @@ static double units(const uint8_t *at, size_t length)
     return (double)count;
 }
 
-/* Room for what is told of broken input: an index of 20 digits at most, 64 letters of two bytes, and zero bytes. */
-enum { BROKEN_ROOM = 20 + 2 * 64 + 3 };
-
 /* Writes a number in digits, and gives how many. */
 static size_t put_digits(uint64_t number, uint8_t *to)
 {
@@ -313,252 +258,201 @@ static size_t put_digits(uint64_t number, uint8_t *to)
     return count;
 }
 
-/* Broken input begins with any bytes, which no string has: JavaScript gets each as a letter of Latin-1, and the index
- * of the first invalid entry as the name. Other events are told as they are. */
-static const uint8_t *texts_to_tell(bm_event *event, const uint8_t *texts, uint8_t room[BROKEN_ROOM])
+/* Writes bytes as letters of Latin-1, and gives how many bytes these are. */
+static size_t put_letters(const uint8_t *from, size_t length, uint8_t *to)
 {
-    if (event->kind != BM_BROKEN)
-        return texts;
-    const uint8_t *from = texts + 1;
-    size_t length = event->text_len;
-    event->name_len = put_digits(event->key, room);
-    uint8_t *to = room + event->name_len;
-    *to++ = 0;
+    const uint8_t *begin = to;
     for (size_t i = 0; i < length; i++) {
         if (from[i] >= 0x80)
             *to++ = 0xc0 | from[i] >> 6;
         *to++ = from[i] >= 0x80 ? (0x80 | (from[i] & 0x3f)) : from[i];
     }
-    event->text_len = (size_t)(to - room) - event->name_len - 1;
-    to[0] = to[1] = 0;
-    return room;
+    return (size_t)(to - begin);
 }
 
-static bool is_broken(const bm_event *event)
-{
-    return event->kind == BM_BROKEN;
-}
-
-/* The string of one event, whose head it writes: its texts as they lie, with the zero bytes between them. */
-static napi_value string_of_one(napi_env env, const uint8_t *given, bm_event event, double *head)
-{
-    uint8_t room[BROKEN_ROOM];
-    const uint8_t *texts = texts_to_tell(&event, given, room);
-    size_t length = event.name_len + event.text_len + event.id_len + 2;
-    napi_value made = NULL;
-    put_head(&event, head);
-    if (is_ascii(texts, length)) {
-        napi_create_string_latin1(env, (const char *)texts, length, &made);
-        return made;
-    }
-    head[3] = units(texts, event.name_len);
-    head[4] = units(texts + event.name_len + 1, event.text_len);
-    head[5] = units(texts + event.name_len + event.text_len + 2, event.id_len);
-    napi_create_string_utf8(env, (const char *)texts, length, &made);
-    return made;
-}
-
-/* Puts an event's texts behind those before, and gives whether all are ASCII. */
-static bool put_texts(const uint8_t *texts, const bm_event *event, bool wants_ids, uint8_t **end, double *head)
-{
-    size_t lengths[] = {event->name_len, event->text_len, wants_ids ? event->id_len : 0};
-    const uint8_t *from = texts;
-    uint8_t *begin = *end;
-    for (int i = 0; i < 3; i++) {
-        memcpy(*end, from, lengths[i]);
-        *end += lengths[i];
-        from += lengths[i] + 1;
-    }
-    if (is_ascii(begin, (size_t)(*end - begin)))
-        return true;
-    for (int i = 0; i < 3; begin += lengths[i++])
-        head[3 + i] = units(begin, lengths[i]);
-    return false;
-}
-
-/* The same without its text, which stands among the bodies. Broken input has no body, and its letters in the place of
- * an id. */
-static bool put_name(const uint8_t *texts, const bm_event *event, bool wants_ids, uint8_t **end, double *head)
-{
-    bool has_letters = is_broken(event);
-    const uint8_t *id = texts + event->name_len + 1 + (has_letters ? 0 : event->text_len + 1);
-    size_t length = has_letters ? event->text_len : wants_ids ? event->id_len : 0;
-    uint8_t *begin = *end;
-    memcpy(begin, texts, event->name_len);
-    memcpy(begin + event->name_len, id, length);
-    *end += event->name_len + length;
-    if (has_letters)
-        head[4] = 0;
-    head[5] = (double)length;
-    if (is_ascii(begin, event->name_len + length))
-        return true;
-    head[3] = units(begin, event->name_len);
-    head[5] = units(begin + event->name_len, length);
-    return false;
-}
-
-/* Reads the event at a place of the room, and moves the place on to the next. Gives its texts. */
-static const uint8_t *read_event(const uint8_t *room, const uint8_t **at, bm_event *event)
-{
-    memcpy(event, *at, sizeof *event);
-    const uint8_t *texts = *at + sizeof *event;
-    size_t over = (size_t)(texts - room) + event->name_len + event->text_len + event->id_len + 3;
-    *at = room + (over + 7) / 8 * 8;
-    return texts;
-}
-
-/* Puts the bodies of many events as an array of JSON, which JavaScript reads at once. Each body is JSON. */
-static void put_bodies(const uint8_t *room, uint32_t count, uint8_t **end)
-{
-    const uint8_t *at = room;
-    uint8_t *to = *end;
-    *to++ = '[';
-    for (uint32_t i = 0; i < count; i++) {
-        bm_event event;
-        const uint8_t *texts = read_event(room, &at, &event);
-        if (event.text_len == 0 || is_broken(&event))
-            continue;
-        if (to > *end + 1)
-            *to++ = ',';
-        memcpy(to, texts + event.name_len + 1, event.text_len);
-        to += event.text_len;
-    }
-    *to++ = ']';
-    *end = to;
-}
-
-/* How many events are told, and how: with ids or without, and with their bodies as an array in front, or each event's
- * texts together. */
 typedef struct {
+    const uint8_t *at;
+    size_t length;
+} text;
+
+/* An event's texts, in the order of their lengths in its head. */
+enum { NAME, BODY, ID, TEXTS };
+
+static text text_at(const uint8_t *at, size_t length)
+{
+    return (text){length ? at : (const uint8_t *)"", length};
+}
+
+/* An event's texts as they are told. Broken input begins with any bytes, which no string has: JavaScript gets each as a
+ * letter of Latin-1, in the place of an id, and the index of the first invalid entry as the name. */
+static void texts_to_tell(const bm_event *event, bool wants_ids, uint8_t letters[BROKEN_ROOM], text texts[TEXTS])
+{
+    texts[NAME] = text_at(event->name, event->name_len);
+    texts[BODY] = text_at(event->text, event->text_len);
+    texts[ID] = text_at(event->id, wants_ids ? event->id_len : 0);
+    if (event->kind != BM_BROKEN)
+        return;
+    size_t digits = put_digits(event->key, letters);
+    texts[NAME] = text_at(letters, digits);
+    texts[ID] = text_at(letters + digits, put_letters(event->text, event->text_len, letters + digits));
+    texts[BODY].length = 0;
+}
+
+/* What one crossing tells. */
+typedef struct {
+    uint8_t *bodies, *names; /* where the next ones go */
+    double units;            /* of the bodies */
     uint32_t count;
-    bool wants_ids, has_array;
+    bool wants_ids, has_more, is_plain;
+    napi_value large; /* the texts of the last event, if it had no room */
 } telling;
 
-/* The string of many events: their texts, one behind the other. Writes their heads, and in the fourth place before
- * these how many units the array of bodies has, if there is one. */
-static napi_value string_of_all(crossing *to, telling how, double *heads)
+static napi_value string_of(napi_env env, text it, bool is_plain)
 {
-    const uint8_t *room = to->shared->events.at, *at = room;
-    uint8_t *begin = to->shared->texts.at, *end = begin;
-    double *head = heads + BEFORE_HEADS;
     napi_value made = NULL;
-    bool is_plain = true;
-    if (how.has_array) {
-        put_bodies(room, how.count, &end);
-        size_t length = (size_t)(end - begin);
-        is_plain = is_ascii(begin, length);
-        heads[3] = is_plain ? (double)length : units(begin, length);
-    }
-    for (uint32_t i = 0; i < how.count; i++, head += HEAD) {
-        bm_event event;
-        uint8_t letters[BROKEN_ROOM];
-        const uint8_t *texts = read_event(room, &at, &event);
-        texts = texts_to_tell(&event, texts, letters);
-        put_head(&event, head);
-        is_plain &= how.has_array ? put_name(texts, &event, how.wants_ids, &end, head)
-                                  : put_texts(texts, &event, how.wants_ids, &end, head);
-    }
     if (is_plain)
-        napi_create_string_latin1(to->env, (char *)begin, (size_t)(end - begin), &made);
+        napi_create_string_latin1(env, (const char *)it.at, it.length, &made);
     else
-        napi_create_string_utf8(to->env, (char *)begin, (size_t)(end - begin), &made);
+        napi_create_string_utf8(env, (const char *)it.at, it.length, &made);
     return made;
 }
 
-/* Writes a code to heads[0], how many events there are to [1], whether there may be more to [2], to [3] how many units
- * stand between two texts (0 or 1) or how many the array of bodies in front of them has (from 2 on), and then the
- * heads. Gives the texts, or nothing where there is no event. */
-static napi_value told(crossing *to, const bytes *piece, uint32_t place, telling how)
+/* An event's texts, each as a string, made from where the library has it; and a place for the string of what is told
+ * before it. Where a text is longer than a string can be, there is nothing. */
+static napi_value strings_of(napi_env env, const text texts[TEXTS])
 {
-    uint32_t count = 0;
-    bool has_more = false, is_fed = false;
     napi_value made = NULL;
-    bytes *room = &to->shared->events;
-    double *heads = to->shared->heads[place];
-    int32_t code = ask(&to->it->at, piece, to->shared, &count, &has_more, &is_fed);
-    heads[0] = piece && is_fed ? BM_OK : code;
-    heads[1] = code == BM_OK ? count : 0;
-    heads[2] = has_more || (piece && is_fed && code != BM_OK);
-    heads[3] = count == 1;
-    if (code != BM_OK || count == 0)
-        return NULL;
-    if (count == 1) {
-        bm_event event;
-        memcpy(&event, room->at, sizeof event);
-        made = string_of_one(to->env, room->at + sizeof event, event, heads + BEFORE_HEADS);
-    } else {
-        how.count = count;
-        made = string_of_all(to, how, heads);
+    napi_create_array_with_length(env, TEXTS + 1, &made);
+    for (uint32_t i = 0; i < TEXTS; i++) {
+        napi_value one = string_of(env, texts[i], is_ascii(texts[i].at, texts[i].length));
+        if (one == NULL)
+            return NULL;
+        napi_set_element(env, made, i, one);
     }
-    give_back(room);
-    give_back(&to->shared->texts);
     return made;
 }
 
-/* Tells one event, as `told` does, and reads no further than to it. */
-static napi_value told_one(crossing *to, uint32_t place)
+/* Puts a text behind those before, writes how many units it has, and gives whether it is ASCII. */
+static bool put(text it, uint8_t **end, double *length)
 {
-    bytes *room = &to->shared->events;
-    double *heads = to->shared->heads[place];
-    bm_event event = {0};
-    napi_value made = NULL;
-    int32_t code = grow(room, EVENTS_ROOM) ? bm_next(&to->it->at, &event, room->at, EVENTS_ROOM) : BM_NO_MEMORY;
-    if (code == BM_SMALL) {
-        size_t need = event.name_len + event.text_len + event.id_len + 3;
-        code = grow(room, need) ? bm_next(&to->it->at, &event, room->at, need) : BM_NO_MEMORY;
-    }
-    heads[0] = code;
-    heads[1] = heads[3] = code == BM_OK && event.kind != BM_NONE;
-    heads[2] = 0;
-    if (heads[1] == 0)
-        return NULL;
-    made = string_of_one(to->env, room->at, event, heads + BEFORE_HEADS);
-    give_back(room);
-    return made;
+    bool is_plain = is_ascii(it.at, it.length);
+    memcpy(*end, it.at, it.length);
+    *end += it.length;
+    *length = is_plain ? (double)it.length : units(it.at, it.length);
+    return is_plain;
 }
 
-/* The place of an array of heads, which is thrown over where there is none. */
-static bool place_of(crossing *to, napi_value value, uint32_t *place)
+/* Puts an event's texts behind those before: its body with a comma, and its name and its id. Gives whether there was
+ * room. */
+static bool put_texts(shared *rooms, telling *how, const text texts[TEXTS], double *head)
 {
-    if (napi_get_value_uint32(to->env, value, place) == napi_ok && *place < to->shared->heads_count)
-        return true;
+    size_t bodies = BODIES_ROOM - (size_t)(how->bodies - rooms->room),
+           names = ROOM - (size_t)(how->names - rooms->room);
+    if (texts[BODY].length + 1 >= bodies || texts[NAME].length > names || texts[ID].length > names - texts[NAME].length)
+        return false;
+    how->is_plain &= put(texts[NAME], &how->names, &head[3]);
+    how->is_plain &= put(texts[BODY], &how->bodies, &head[4]);
+    how->is_plain &= put(texts[ID], &how->names, &head[5]);
+    if (texts[BODY].length) {
+        *how->bodies++ = ',';
+        how->units += head[4] + 1;
+    }
+    return true;
+}
+
+/* Tells the next event, if there is one, and gives a code. */
+static int32_t tell(crossing *to, telling *how, double *head)
+{
+    text texts[TEXTS];
+    bm_event event;
+    int32_t code = bm_next(&to->it->at, &event);
+    if (code != BM_OK)
+        return code;
+    how->has_more = event.kind != BM_NONE;
+    if (!how->has_more)
+        return BM_OK;
+    put_head(&event, head);
+    texts_to_tell(&event, how->wants_ids, to->shared->letters, texts);
+    bool has_room = put_texts(to->shared, how, texts, head);
+    if (!has_room)
+        how->large = strings_of(to->env, texts);
+    how->count += has_room || how->large;
+    return BM_OK;
+}
+
+/* Ends the bodies, and gives the string of all that had room. */
+static napi_value string_of_all(crossing *to, telling *how)
+{
+    uint8_t *room = to->shared->room, *names = room + BODIES_ROOM;
+    size_t length = (size_t)(how->names - names);
+    if (how->bodies == room + 1) {
+        how->bodies++;
+        how->units++;
+    }
+    how->bodies[-1] = ']';
+    memmove(how->bodies, names, length);
+    return string_of(to->env, (text){room, (size_t)(how->bodies - room) + length}, how->is_plain);
+}
+
+/* Tells events. Writes a code to heads[0], how many events there are to [1], whether there may be more to [2], and then
+ * the heads. Gives their texts, or nothing where there is no event: an array of JSON, whose elements are the bodies of
+ * those that have one, and whose length stands in heads[3]; and behind it the name and the id of each. Where the last
+ * event has no room in it, it is an array of that event's texts and this string. */
+static napi_value told(crossing *to, double *heads, uint32_t most, bool wants_ids)
+{
+    uint8_t *room = to->shared->room;
+    telling how = {room, room + BODIES_ROOM, 1, 0, wants_ids, true, true, NULL};
+    int32_t code = BM_OK;
+    *how.bodies++ = '[';
+    while (code == BM_OK && how.has_more && !how.large && how.count < most)
+        code = tell(to, &how, heads + BEFORE_HEADS + how.count * HEAD);
+    heads[0] = how.count ? BM_OK : code;
+    heads[1] = how.count;
+    heads[2] = how.has_more;
+    if (how.count == 0)
+        return NULL;
+    napi_value all = string_of_all(to, &how);
+    heads[3] = how.units;
+    if (how.large)
+        napi_set_element(to->env, how.large, TEXTS, all);
+    return how.large ? how.large : all;
+}
+
+/* An array of heads, by its place; it is thrown over where there is none. */
+static double *heads_at(crossing *to, napi_value value)
+{
+    uint32_t place;
+    if (napi_get_value_uint32(to->env, value, &place) == napi_ok && place < to->shared->heads_count)
+        return to->shared->heads[place];
     thrown(to->env, "ERR_OUT_OF_RANGE", "there are no such heads");
-    return false;
+    return NULL;
 }
 
-/* events(handle, heads, wantsIds, wantsArray): with the latter, the bodies of several events are one array */
+/* events(handle, heads, wantsIds, isOne): with the latter, one event is told, and nothing is read behind it */
 static napi_value events(napi_env env, napi_callback_info info)
 {
     crossing to;
-    uint32_t place;
-    if (!begin(&to, env, info) || !place_of(&to, to.given[1], &place))
+    double *heads;
+    if (!begin(&to, env, info) || !(heads = heads_at(&to, to.given[1])))
         return NULL;
-    return told(&to, NULL, place, (telling){.wants_ids = flag(env, to.given[2]), .has_array = flag(env, to.given[3])});
+    return told(&to, heads, flag(env, to.given[3]) ? 1 : MOST_EVENTS, flag(env, to.given[2]));
 }
 
-/* next(handle, heads) */
-static napi_value next(napi_env env, napi_callback_info info)
-{
-    crossing to;
-    uint32_t place;
-    if (!begin(&to, env, info) || !place_of(&to, to.given[1], &place))
-        return NULL;
-    return told_one(&to, place);
-}
-
-/* fed(handle, bytes, heads, wantsIds, wantsArray). A code is that of the bytes, none of which were taken then; where
- * they were, and there is no memory for an event, none is told, and there may be more. */
+/* fed(handle, bytes, heads, wantsIds). A code is that of the bytes, none of which were taken then; where they were, and
+ * there is no memory for an event, none is told, and there may be more. */
 static napi_value fed(napi_env env, napi_callback_info info)
 {
     crossing to;
-    uint32_t place;
+    double *heads;
     bytes piece;
-    if (!begin(&to, env, info) || !place_of(&to, to.given[2], &place))
+    if (!begin(&to, env, info) || !(heads = heads_at(&to, to.given[2])))
         return NULL;
     if (!bytes_of(env, to.given[1], &piece))
         return thrown(env, "ERR_INVALID_ARG_TYPE", "bytes are needed");
-    telling how = {.wants_ids = flag(env, to.given[3]), .has_array = flag(env, to.given[4])};
-    return told(&to, &piece, place, how);
+    int32_t code = bm_feed(&to.it->at, piece.at, piece.length);
+    napi_value made = code == BM_OK ? told(&to, heads, MOST_EVENTS, flag(env, to.given[3])) : NULL;
+    heads[0] = code;
+    return made;
 }
 
 /* feed(handle, bytes): a code */
@@ -598,19 +492,19 @@ static int32_t say_one(bm_connection *at, const saying *it, uint64_t *key)
 {
     bytes first = it->first, second = it->second;
     switch (it->kind) {
-    case ANSWER:
+    case BM_SAY_ANSWER:
         return bm_answer(at, it->number, first.at, first.length);
-    case CLOSE:
-        return bm_answer(at, it->number, first.at, 0);
-    case FAIL:
+    case BM_SAY_FAIL:
         return bm_fail(at, it->number, it->code, first.at, first.length, second.at, second.length);
-    case CALL:
+    case BM_SAY_CLOSE:
+        return bm_close_call(at, it->number);
+    case BM_SAY_CALL:
         return bm_call(at, it->number, first.at, first.length, second.at, second.length, key);
-    case NOTIFY:
+    case BM_SAY_NOTIFY:
         return bm_notify(at, first.at, first.length, second.at, second.length);
-    case WITHDRAW:
+    case BM_SAY_WITHDRAW:
         return bm_withdraw(at, it->number);
-    case CANCEL:
+    case BM_SAY_CANCEL:
         return bm_cancel(at, it->number);
     }
     return BM_SETTINGS;
@@ -632,8 +526,8 @@ static saying read_saying(const double *said, bytes *rest)
     uint32_t word = (uint32_t)said[0];
     saying it = {.kind = word & (ALONE - 1), .number = (uint64_t)said[1], .code = (int64_t)said[2]};
     it.first = it.second = (bytes){rest->at, 0};
-    bool has_two = it.kind == FAIL || it.kind == CALL || it.kind == NOTIFY;
-    if (it.kind == ANSWER || has_two)
+    bool has_two = it.kind == BM_SAY_FAIL || it.kind == BM_SAY_CALL || it.kind == BM_SAY_NOTIFY;
+    if (it.kind == BM_SAY_ANSWER || has_two)
         it.first = next_text(rest);
     if (has_two && !(word & ALONE))
         it.second = next_text(rest);
@@ -644,12 +538,9 @@ static saying read_saying(const double *said, bytes *rest)
  * line feeds. */
 static void put_saying(bm_saying *to, const saying *it, uint8_t **end)
 {
-    static const uint32_t kinds[] = {
-        [ANSWER] = BM_SAY_ANSWER,     [FAIL] = BM_SAY_FAIL,     [CALL] = BM_SAY_CALL,  [NOTIFY] = BM_SAY_NOTIFY,
-        [WITHDRAW] = BM_SAY_WITHDRAW, [CANCEL] = BM_SAY_CANCEL, [CLOSE] = BM_SAY_CLOSE};
-    bool is_answer = it->kind == ANSWER;
-    bool is_withdrawal = it->kind == WITHDRAW;
-    *to = (bm_saying){.kind = it->kind <= CLOSE ? kinds[it->kind] : 0, .code = it->code};
+    bool is_answer = it->kind == BM_SAY_ANSWER;
+    bool is_withdrawal = it->kind == BM_SAY_WITHDRAW;
+    *to = (bm_saying){.kind = it->kind, .code = it->code};
     to->number = is_withdrawal ? 0 : it->number;
     to->key = is_withdrawal ? it->number : 0;
     to->name_len = is_answer ? 0 : it->first.length;
@@ -667,23 +558,22 @@ static void put_said(double *said, const bm_saying *it)
         said[1] = (double)it->key;
 }
 
-/* Says all, in their order, each by itself, and takes bytes. In the place of each kind comes its code, and in that of a
- * call's number its key; in the first place how many were refused. */
-static size_t say_all(crossing *to, uint32_t count, bytes texts, bytes out)
+/* Says all, in their order, each by itself. In the place of each kind comes its code, and in that of a call's number
+ * its key; in the first place how many were refused. */
+static void say_all(crossing *to, uint32_t count, bytes texts)
 {
     double *says = to->shared->says;
     uint8_t *begin = texts.at, *end = texts.at;
     bm_saying *sayings = (bm_saying *)to->shared->sayings.at;
-    bm_said all = {0};
+    size_t refused = 0;
     for (uint32_t i = 0; i < count; i++) {
         saying it = read_saying(says + BEFORE_SAYINGS + i * SAYING, &texts);
         put_saying(&sayings[i], &it, &end);
     }
-    bm_say_all(&to->it->at, sayings, count, begin, (size_t)(end - begin), out.at, out.length, &all);
+    bm_say_all(&to->it->at, sayings, count, begin, (size_t)(end - begin), &refused);
     for (uint32_t i = 0; i < count; i++)
         put_said(says + BEFORE_SAYINGS + i * SAYING, &sayings[i]);
-    says[0] = (double)all.refused;
-    return all.taken;
+    says[0] = (double)refused;
 }
 
 /* The same where there is no memory for the texts. */
@@ -694,23 +584,42 @@ static void refuse_all(double *says, uint32_t count)
     says[0] = count;
 }
 
-/* The UTF-8 of a string, in the shared room. A short one has room in any case, and isn't measured. */
+/* The UTF-8 of a string, in a shared room. A short one has room in any case, and isn't measured. */
 static bool texts_of(crossing *to, napi_value value, bytes *texts)
 {
-    bytes *room = &to->shared->texts;
+    shared *rooms = to->shared;
     uint32_t length_in_units = 0;
-    size_t length = 0;
     napi_get_value_uint32(to->env, to->given[3], &length_in_units);
-    size_t most = (size_t)length_in_units * 3 + 1;
-    if (most > TEXTS_ROOM) {
+    *texts = (bytes){rooms->room, ROOM};
+    if ((size_t)length_in_units * 3 >= ROOM) {
+        size_t length = 0;
         napi_get_value_string_utf8(to->env, value, NULL, 0, &length);
-        most = length + 1;
+        if (!grow(&rooms->texts, length + 1))
+            return false;
+        *texts = rooms->texts;
     }
-    if (!grow(room, most > TEXTS_ROOM ? most : TEXTS_ROOM))
-        return false;
-    napi_get_value_string_utf8(to->env, value, (char *)room->at, room->length, &length);
-    *texts = (bytes){room->at, length};
+    napi_get_value_string_utf8(to->env, value, (char *)texts->at, texts->length, &texts->length);
     return true;
+}
+
+/* Moves bytes that are to be written to a room, as many as fit, and gives how many. A content goes as a whole, and
+ * alone. */
+static size_t take_bytes(connection *it, bytes out)
+{
+    const uint8_t *lent;
+    size_t taken = 0, length;
+    while (taken < out.length && (length = bm_output(&it->at, &lent)) > 0) {
+        size_t left = out.length - taken;
+        if (length > left && it->is_contents)
+            break;
+        length = length < left ? length : left;
+        memcpy(out.at + taken, lent, length);
+        bm_written(&it->at, length);
+        taken += length;
+        if (it->is_contents)
+            break;
+    }
+    return taken;
 }
 
 /* say(handle, count, texts, units, out): how many bytes were taken to `out` */
@@ -724,15 +633,12 @@ static napi_value say(napi_env env, napi_callback_info info)
     napi_get_value_uint32(env, to.given[1], &count);
     if (!bytes_of(env, to.given[4], &out) || count > MOST_SAYINGS)
         return thrown(env, "ERR_INVALID_ARG_TYPE", "a room is needed");
-    if (count == 0)
-        return number(env, (double)bm_take(&to.it->at, out.at, out.length));
-    if (!grow(&to.shared->sayings, count * SAYING_SIZE) || !texts_of(&to, to.given[2], &texts)) {
+    if (count && grow(&to.shared->sayings, count * SAYING_SIZE) && texts_of(&to, to.given[2], &texts)) {
+        say_all(&to, count, texts);
+        give_back(&to.shared->texts);
+    } else if (count)
         refuse_all(to.shared->says, count);
-        return number(env, (double)bm_take(&to.it->at, out.at, out.length));
-    }
-    size_t taken = say_all(&to, count, texts, out);
-    give_back(&to.shared->texts);
-    return number(env, (double)taken);
+    return number(env, (double)take_bytes(to.it, out));
 }
 
 /* sayOne(handle, kind, number, code, first, second): a code; says[2] is a call's key. The texts are Uint8Arrays. */
@@ -790,7 +696,7 @@ static napi_value take(napi_env env, napi_callback_info info)
         return NULL;
     if (!bytes_of(env, to.given[1], &out))
         return thrown(env, "ERR_INVALID_ARG_TYPE", "a room is needed");
-    return number(env, (double)bm_take(&to.it->at, out.at, out.length));
+    return number(env, (double)take_bytes(to.it, out));
 }
 
 /* pending(handle) */
@@ -825,18 +731,6 @@ static napi_value counts(napi_env env, napi_callback_info info)
     napi_create_array_with_length(env, count, &made);
     for (uint32_t i = 0; i < count; i++)
         napi_set_element(env, made, i, number(env, (double)all[i]));
-    return made;
-}
-
-/* has(addition): whether the library has it */
-static napi_value has(napi_env env, napi_callback_info info)
-{
-    napi_value given, made = NULL;
-    size_t count = 1;
-    uint32_t addition = 0;
-    napi_get_cb_info(env, info, &count, &given, NULL, NULL);
-    napi_get_value_uint32(env, given, &addition);
-    napi_get_boolean(env, bm_has(addition), &made);
     return made;
 }
 
@@ -886,7 +780,6 @@ static void forget_shared(napi_env env, void *data, void *hint)
 {
     shared *it = data;
     (void)env, (void)hint;
-    free(it->events.at);
     free(it->texts.at);
     free(it->sayings.at);
     free(it->heads);
@@ -903,10 +796,20 @@ __attribute__((visibility("default"))) napi_value napi_register_module_v1(napi_e
     static const struct {
         const char *name;
         napi_callback call;
-    } calls[] = {{"open", open_one},   {"close", close_one}, {"heads", heads},      {"feed", feed},
-                 {"fed", fed},         {"events", events},   {"next", next},        {"end", end},
-                 {"say", say},         {"take", take},       {"sayOne", say_alone}, {"callBatch", call_batch},
-                 {"counts", counts},   {"pending", pending}, {"isDone", is_done},   {"has", has},
+    } calls[] = {{"open", open_one},
+                 {"close", close_one},
+                 {"heads", heads},
+                 {"feed", feed},
+                 {"fed", fed},
+                 {"events", events},
+                 {"end", end},
+                 {"say", say},
+                 {"take", take},
+                 {"sayOne", say_alone},
+                 {"callBatch", call_batch},
+                 {"counts", counts},
+                 {"pending", pending},
+                 {"isDone", is_done},
                  {"faultAt", fault_at}};
     if (bm_interface() != BM_INTERFACE)
         return thrown(env, "ERR_BULLMYRTLE_INTERFACE", "the library has another interface");

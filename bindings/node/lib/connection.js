@@ -3,7 +3,8 @@
 
 const { inspect, types: { isUint8Array } } = require('node:util')
 const {
-  native, HOWS, FRAMINGS, ORDERS, CANCELS, DEFECTS, TOLD, LARGE_CODE, SAY, BEFORE_HEADS, HEAD, borrowHeads, returnHeads
+  native, CODES, HOWS, FRAMINGS, ORDERS, CANCELS, DEFECTS, TOLD, LARGE_CODE, SAY, BEFORE_HEADS, HEAD, packedOf, largeOf,
+  borrowHeads, returnHeads
 } = require('./native')
 const { check } = require('./refused')
 
@@ -62,24 +63,27 @@ const ANY_ENTRIES = 2n ** 32n - 1n
 function limit(value, name, greatest) {
   if (value === undefined) return 0
   const it = BigInt(whole(value, name))
-  if (it === 0n) check(8)
+  if (it === 0n) check(CODES.indexOf('BadSettings'))
   return it > greatest ? greatest : it
 }
 
-/** Gives the events that one crossing told, whose texts are one string. */
-function read({ heads }, texts, ids) {
+/** Gives the events that one crossing told. */
+function read({ heads }, texts) {
   const told = []
-  const gap = heads[3]
-  let at = 0
-  for (let i = 0, head = BEFORE_HEADS; i < heads[1]; i++, head += HEAD) {
-    const name = texts.substring(at, at + heads[head + 3])
-    at += heads[head + 3] + gap
-    const body = heads[head + 4] ? texts.substring(at, at + heads[head + 4]) : undefined
-    at += heads[head + 4] + gap
-    const id = heads[head + 5] ? texts.substring(at, at + heads[head + 5]) : undefined
-    at += heads[head + 5]
-    told.push(event(heads, head, name, body, id))
+  const packed = packedOf(texts)
+  const large = largeOf(texts)
+  const end = BEFORE_HEADS + HEAD * heads[1]
+  let bodies = 1
+  let at = heads[3]
+  const next = length => (length ? packed.substring(at, (at += length)) : '')
+  for (let head = BEFORE_HEADS; head < end - (large ? HEAD : 0); head += HEAD) {
+    const name = next(heads[head + 3])
+    const id = next(heads[head + 5])
+    const length = heads[head + 4]
+    told.push(event(heads, head, name, packed.substring(bodies, bodies + length) || undefined, id || undefined))
+    if (length) bodies += length + 1
   }
+  if (large) told.push(event(heads, end - HEAD, large[0], large[1] || undefined, large[2] || undefined))
   return told
 }
 
@@ -94,14 +98,14 @@ function event(heads, head, name, body, id) {
       if (flags === 0) return { kind: 'replied', key: number, result: body }
       return { kind: 'failed', key: number, code: codeIn(heads, head), message: name, data: body }
     case TOLD.unanswered: return { kind: 'unanswered', key: number }
-    case TOLD.broken: return { kind: 'broken', ...brokenOf(number, flags, heads[head + 2], name, body) }
+    case TOLD.broken: return { kind: 'broken', ...brokenOf(number, flags, heads[head + 2], name, id) }
     default: return { kind: 'over', how: HOWS[flags] }
   }
 }
 
 /** What is told of broken input. The addon has each of its bytes as a letter, and a number as the name. */
-function brokenOf(offset, flags, entries, name, body = '') {
-  return { offset, first: Buffer.from(body, 'latin1'), what: DEFECTS[flags], entry: Number(name), entries }
+function brokenOf(offset, flags, entries, name, letters = '') {
+  return { offset, first: Buffer.from(letters, 'latin1'), what: DEFECTS[flags], entry: Number(name), entries }
 }
 
 /** An error's code: a BigInt where a number wouldn't be exact. */
@@ -117,6 +121,7 @@ function countsOf([calls, requests, open, waiting, ownCalls, answersWritten, unr
 class Connection {
   #handle
   #framing
+  #kept = [] // events that were told before memory was refused
 
   /** @param {import('../types').ConnectionSettings} settings */
   constructor({
@@ -147,17 +152,18 @@ class Connection {
 
   /** `feed` and then `events`, in one crossing. */
   fed(bytes) {
-    return this.#all(place => native.fed(this.#handle, bytes, place, true, false))
+    return this.#all(place => native.fed(this.#handle, bytes, place, true), true)
   }
 
   events() {
-    return this.#all(place => native.events(this.#handle, place, true, false))
+    return this.#all(place => native.events(this.#handle, place, true, false), false)
   }
 
   nextEvent() {
+    if (this.#kept.length) return this.#kept.shift()
     const room = borrowHeads()
     try {
-      const texts = native.next(this.#handle, room.place)
+      const texts = native.events(this.#handle, room.place, true, true)
       check(room.heads[0])
       return texts === undefined ? undefined : read(room, texts)[0]
     } finally {
@@ -165,18 +171,21 @@ class Connection {
     }
   }
 
-  #all(first) {
+  /** (bytes that were fed must not be fed again, so nothing is thrown behind them: other events come later) */
+  #all(first, isFed) {
     const room = borrowHeads()
-    const told = []
+    const { heads, place } = room
+    const told = this.#kept
     try {
-      let texts = first(room.place)
-      for (;;) {
-        if (told.length === 0) check(room.heads[0]) // (what was told before isn't lost)
-        if (texts === undefined) return told
+      let texts = first(place)
+      if (isFed) check(heads[0])
+      while (texts !== undefined) {
         for (const it of read(room, texts)) told.push(it)
-        if (!room.heads[2]) return told
-        texts = native.events(this.#handle, room.place, true, false)
+        texts = heads[2] ? native.events(this.#handle, place, true, false) : undefined
       }
+      if (!isFed) check(heads[0])
+      this.#kept = []
+      return told
     } finally {
       returnHeads(room)
     }

@@ -2,7 +2,7 @@
 // Input goes to the addon, and events are received from it: a piece of input and the answers to it cross twice.
 
 const {
-  native, CODES, OK, TOLD, LARGE_CODE, BEFORE_HEADS, HEAD, borrowHeads, returnHeads
+  native, CODES, OK, LARGE_CODE, BEFORE_HEADS, HEAD, packedOf, largeOf, borrowHeads, returnHeads
 } = require('./native')
 
 const NOTHING = Buffer.alloc(0)
@@ -83,17 +83,16 @@ class Receiving {
     try {
       const { heads, place } = room
       let texts = isFed
-        ? native.fed(state.handle, piece, place, this.#wantsIds, true)
-        : native.events(state.handle, place, this.#wantsIds, true)
+        ? native.fed(state.handle, piece, place, this.#wantsIds)
+        : native.events(state.handle, place, this.#wantsIds, false)
       for (;;) {
         if (heads[0] !== OK) return isFed ? this.#fault(CODES[heads[0]]) : this.#receiveLater()
         if (texts === undefined) return heads[2] ? this.#receiveLater() : undefined
-        if (heads[1] > 1) this.#several(heads, texts)
-        else this.#single(heads, texts)
+        this.#told(heads, texts)
         if (state.isFreed || !heads[2]) return
         // (few open calls cost the connection less than many)
         if (this.#said.count && !state.isFlushing) this.#said.cross(NOTHING)
-        texts = native.events(state.handle, place, this.#wantsIds, true)
+        texts = native.events(state.handle, place, this.#wantsIds, false)
         isFed = false
       }
     } finally {
@@ -102,30 +101,22 @@ class Receiving {
     }
   }
 
-  /** Several events: in front of the texts is an array of JSON with their bodies, and behind it are names and ids. */
-  #several(heads, texts) {
+  /** What a crossing told: the bodies of events are read together. */
+  #told(heads, texts) {
+    const packed = packedOf(texts)
+    const large = largeOf(texts)
+    const end = BEFORE_HEADS + HEAD * heads[1]
     let at = heads[3]
-    const bodies = JSON.parse(texts.substring(0, at))
+    const bodies = JSON.parse(packed.substring(0, at))
     let next = 0
-    for (let left = heads[1], head = BEFORE_HEADS; left > 0 && !this.#state.isFreed; left--, head += HEAD) {
-      const end = at + heads[head + 3]
-      const over = end + heads[head + 5]
-      const body = heads[head + 4] ? bodies[next++] : undefined
-      this.#one(heads, head, texts.substring(at, end), body, over > end ? texts.substring(end, over) : undefined)
-      at = over
+    for (let head = BEFORE_HEADS; head < end - (large ? HEAD : 0); head += HEAD) {
+      if (this.#state.isFreed) return
+      const name = packed.substring(at, at += heads[head + 3])
+      const id = heads[head + 5] ? packed.substring(at, at += heads[head + 5]) : undefined
+      this.#one(heads, head, name, heads[head + 4] ? bodies[next++] : undefined, id)
     }
-  }
-
-  /** One event: its name, body and id, with a zero byte between them. */
-  #single(heads, texts) {
-    const begin = heads[BEFORE_HEADS + 3] + 1
-    const end = begin + heads[BEFORE_HEADS + 4]
-    const over = end + 1 + heads[BEFORE_HEADS + 5]
-    const name = texts.substring(0, begin - 1)
-    const text = end > begin ? texts.substring(begin, end) : undefined
-    const id = over > end + 1 ? texts.substring(end + 1, over) : undefined
-    if ((heads[BEFORE_HEADS] & 15) === TOLD.broken) this.#one(heads, BEFORE_HEADS, name, undefined, text)
-    else this.#one(heads, BEFORE_HEADS, name, text === undefined ? undefined : JSON.parse(text), id)
+    if (!large || this.#state.isFreed) return
+    this.#one(heads, end - HEAD, large[0], large[1] ? JSON.parse(large[1]) : undefined, large[2] || undefined)
   }
 
   #one(heads, head, name, body, id) {

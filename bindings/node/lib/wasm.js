@@ -5,16 +5,16 @@
 const { types: { isUint8Array } } = require('node:util')
 
 /** What a value is. */
-const [, NUMBER, BOOLEAN, BIGINT, BYTES, WORDS, TEXT, ASCII, EXTERNAL, NUMBERS] = Array(10).keys()
+const [, NUMBER, BOOLEAN, BIGINT, BYTES, WORDS, TEXT, ASCII, EXTERNAL, NUMBERS, LIST] = Array(11).keys()
 const UNDEFINED = 0
 /** Of a value, in words of 32 bits: how many it has, and where in it its kind, its place and its length stand. */
 const VALUE = 6
 const KIND = 2
 const PLACE = 3
 const LENGTH = 4
-/** Where stands what a call made, and the code and the text of an error, in such words. */
+/** Where stands what a call made, and the code and the text of an error behind what a list has, in such words. */
 const MADE = 8 * VALUE
-const ERROR = MADE + VALUE + 2 * 9
+const ERROR = MADE + VALUE + 9 * VALUE
 /** Rooms for what comes in, for a second text, for a small output and for a large one. */
 const FIRST = 0
 const SECOND = 1
@@ -139,17 +139,21 @@ class Memory {
 
   /** What a call made. */
   get made() {
+    return this.#valueAt(this.#here + MADE)
+  }
+
+  #valueAt(word) {
     const { words, numbers } = this
-    const made = this.#here + MADE
-    const place = words[made + PLACE]
-    const length = words[made + LENGTH]
-    switch (words[made + KIND]) {
-      case NUMBER: return numbers[made / 2]
-      case BOOLEAN: return numbers[made / 2] !== 0
+    const place = words[word + PLACE]
+    const length = words[word + LENGTH]
+    switch (words[word + KIND]) {
+      case NUMBER: return numbers[word / 2]
+      case BOOLEAN: return numbers[word / 2] !== 0
       case TEXT: return this.bytes.utf8Slice(place, place + length)
       case ASCII: return this.bytes.latin1Slice(place, place + length)
       case EXTERNAL: return new Handle(place)
-      case NUMBERS: return this.numbers.subarray(place / 8, place / 8 + length)
+      case NUMBERS: return numbers.subarray(place / 8, place / 8 + length)
+      case LIST: return Array.from({ length }, (_, at) => this.#valueAt(place / 4 + at * VALUE))
       default: return undefined
     }
   }
@@ -265,32 +269,25 @@ class Addon {
     return texts
   }
 
-  fed(handle, bytes, place, wantsIds, wantsArray) {
+  fed(handle, bytes, place, wantsIds) {
     const memory = this.#memory
     const hasRoom = memory.giveBytes(1, bytes, FIRST)
     memory.give(0, handle)
     memory.give(2, place)
     memory.give(3, wantsIds)
-    memory.give(4, wantsArray)
     if (hasRoom) return this.#told('fed', place)
     this.#heads[place].array.fill(0, 0, BEFORE_HEADS)
     this.#heads[place].array[0] = NO_MEMORY
     return undefined
   }
 
-  events(handle, place, wantsIds, wantsArray) {
+  events(handle, place, wantsIds, isOne) {
     const memory = this.#memory
     memory.give(0, handle)
     memory.give(1, place)
     memory.give(2, wantsIds)
-    memory.give(3, wantsArray)
+    memory.give(3, isOne)
     return this.#told('events', place)
-  }
-
-  next(handle, place) {
-    this.#memory.give(0, handle)
-    this.#memory.give(1, place)
-    return this.#told('next', place)
   }
 
   feed(handle, bytes) {
@@ -377,7 +374,7 @@ class Addon {
   }
 
   counts(handle) {
-    return [...this.#with('counts', handle)]
+    return this.#with('counts', handle)
   }
 
   faultAt(handle) {

@@ -210,6 +210,17 @@ test('contents and texts at their limits', async () => {
   large.connection.dispose()
 })
 
+test('large and small messages that come together are answered in their order', async () => {
+  const raw = new Raw().listen()
+  raw.connection.onRequest('m', it => it.text)
+  raw.connection.onRequest('é'.repeat(50_000), it => it.text)
+  const texts = [1, 100_000, 2, 60_000, 57_300, 100_000, 3].map((length, at) => `${at}é`.repeat(length))
+  const all = texts.map((text, at) => request(at, at === 3 ? 'é'.repeat(50_000) : 'm', { text }))
+  const found = await raw.say(all.length, ...all)
+  assert.deepEqual(found.map(it => [it.id, it.result === texts[it.id]]), all.map(it => [it.id, true]))
+  raw.connection.dispose()
+})
+
 test('params of 120 levels go through, and deeper ones are read', () => withBoth(server => {
   server.onRequest('depth', it => { let depth = 0; for (let at = it; Array.isArray(at); at = at[0]) depth++; return depth })
 }, async client => {

@@ -93,6 +93,66 @@ test('large texts, ASCII and not', () => {
   }
 })
 
+test('texts that just have room among others, and larger ones', () => {
+  const small = { jsonrpc: '2.0', method: 'é', params: ['s'], id: 's' }
+  const called = ({ method, params, id }, at) => (
+    { kind: 'call', number: at + 1, method, params: JSON.stringify(params), id: JSON.stringify(id), isRequest: true }
+  )
+  const letters = [['x', 1, 1], ['é', 2, 10]]
+  for (const room of [2 ** 13, 2 ** 16 - 2 ** 13, 2 ** 16]) {
+    for (const [letter, size, step] of letters) {
+      for (let length = room - 30; length < room + 6; length += step) {
+        const text = letter.repeat(length / size)
+        for (const part of [{ method: text }, { params: [text] }, { id: text }]) {
+          const all = [small, { ...small, ...part }, small, { ...small, ...part }, { ...small, ...part }, small]
+          const bytes = Buffer.concat(all.map(line))
+          const together = new Connection({ framing: 'lines' })
+          assert.deepEqual(together.fed(bytes), all.map(called), `${length}`)
+        }
+      }
+    }
+  }
+})
+
+test('each text of an event that is large, alone and one by one', () => {
+  const text = 'é'.repeat(100_000)
+  const it = new Connection({ framing: 'lines', broken: true })
+  it.call(0, 'ask')
+  it.call(0, 'ask')
+  const sent = [
+    { jsonrpc: '2.0', id: 1, error: { code: 1_152_921_504_606_847_000, message: text, data: text } },
+    { jsonrpc: '2.0', id: 2, result: text },
+    { jsonrpc: '2.0', method: text, params: { text }, id: text }, { jsonrpc: '2.0', method: 'x'.repeat(8_190) }
+  ]
+  const broken = Buffer.alloc(64, 0xff)
+  const called = { kind: 'call', params: undefined, id: undefined }
+  it.feed(Buffer.concat([...sent.map(line), broken, Buffer.from('\n')]))
+  const offset = sent.reduce((length, one) => length + line(one).length, 0)
+  const wanted = [
+    { kind: 'failed', key: 1, code: 1_152_921_504_606_847_000n, message: text, data: JSON.stringify(text) },
+    { kind: 'replied', key: 2, result: JSON.stringify(text) },
+    { ...called, number: 1, method: text, params: JSON.stringify({ text }), id: JSON.stringify(text), isRequest: true },
+    { ...called, number: 2, method: 'x'.repeat(8_190), isRequest: false },
+    { kind: 'broken', offset, first: broken, what: 'Unreadable', entry: 0, entries: 0 }
+  ]
+  assert.deepEqual([it.nextEvent(), ...it.events(), it.nextEvent()], [...wanted, undefined])
+})
+
+test('a content goes as a whole, whatever its length and the room for it', () => {
+  for (const length of [1, 2 ** 16 - 40, 2 ** 16 - 39, 2 ** 16, 3_000_000]) {
+    const it = new Connection({ framing: 'contents' })
+    const params = JSON.stringify(['y'.repeat(length)])
+    it.notify('m', params)
+    it.notify('n')
+    const content = `{"jsonrpc":"2.0","method":"m","params":${params}}`
+    assert.equal(it.pending, content.length)
+    assert.equal(it.take(content.length - 1).length, 0)
+    assert.equal(it.take(content.length + 1_000).toString(), content)
+    assert.equal(it.take().toString(), '{"jsonrpc":"2.0","method":"n"}')
+    assert.deepEqual([it.pending, it.take().length], [0, 0])
+  }
+})
+
 test('what is refused has changed nothing', () => {
   const it = new Connection({ framing: 'lines' })
   it.fed(line({ jsonrpc: '2.0', method: 'm', id: 1 }))

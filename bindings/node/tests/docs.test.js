@@ -74,7 +74,7 @@ const hasNpm = spawnSync('npm', ['--version']).status === 0
 test('the package that npm packs is whole, and installs without a network', { skip: hasNpm ? false : 'npm, which is not here' }, () => {
   const folder = fs.mkdtempSync(path.join(os.tmpdir(), 'pack-'))
   const copy = path.join(folder, 'repository')
-  for (const it of ['bindings/node', 'release/bullmyrtle-linux-x64.node']) fs.cpSync(path.join(TOP, it), path.join(copy, it), { recursive: true })
+  for (const it of ['bindings/node', `release/bullmyrtle-${process.platform}-${process.arch}.node`]) fs.cpSync(path.join(TOP, it), path.join(copy, it), { recursive: true })
   const env = { ...process.env, npm_config_cache: path.join(folder, 'cache'), npm_config_update_notifier: 'false', HOME: folder }
   const npm = (at, ...words) => spawnSync('npm', words, { cwd: at, env, encoding: 'utf8', timeout: patience(240_000) })
   const packed = npm(path.join(copy, 'bindings/node'), 'pack', '--pack-destination', folder)

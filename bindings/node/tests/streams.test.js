@@ -392,6 +392,30 @@ test("readers and writers of one's own", async () => {
   assert.throws(() => createMessageConnection(reader, new PassThrough()), TypeError)
 })
 
+test('messages of all lengths go to a writer one by one, each as a whole', async () => {
+  class Reader extends bullmyrtle.AbstractMessageReader {
+    listen() { return { dispose() {} } }
+  }
+  class Writer extends bullmyrtle.AbstractMessageWriter {
+    sent = []
+    async write(message) { this.sent.push(message) }
+  }
+  const writer = new Writer()
+  const connection = createMessageConnection(new Reader(), writer)
+  const errors = []
+  connection.onError(it => errors.push(it))
+  connection.listen()
+  const content = JSON.stringify(notice('m', { text: '' })).length
+  // (the first of all that are said in a turn is large)
+  const lengths = [2 ** 20, 2 ** 16 - 1, 2 ** 16, 2 ** 16 + 1].flatMap(it => [it - content, it - content, 1, 2])
+  const wanted = lengths.map(it => notice('m', { text: 'x'.repeat(it) }))
+  for (const it of wanted) connection.sendNotification('m', it.params)
+  await until(() => writer.sent.length >= wanted.length)
+  assert.ok(writer.sent.every((it, at) => JSON.stringify(it) === JSON.stringify(wanted[at])))
+  assert.deepEqual(errors, [])
+  connection.dispose()
+})
+
 test('a reader and a writer of streams, without a connection', async () => {
   const stream = new PassThrough()
   const reader = new bullmyrtle.StreamMessageReader(stream)

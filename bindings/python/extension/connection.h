@@ -4,21 +4,21 @@
 
 #include "events.h"
 
-/* How much room for events there is as a rule, and how much is kept. */
-enum { ROOM = 1 << 16, MOST_ROOM = 1 << 20 };
+/* How much of events is kept while others go on, until the interpreter's lock is asked for again. */
+enum { MOST_KEPT = 1 << 16 };
 
-/* Room for events, and those in it of which nothing is told yet: so many, the first of them at this place. */
-typedef struct room {
-    struct room *next;
-    size_t size;
-    size_t at;
-    uint32_t left;
-    uint64_t bytes[];
-} Room;
+/* An event that is told later than the library lends it, with its texts. */
+typedef struct kept {
+    struct kept *next;
+    bm_event is;
+    uint8_t texts[];
+} Kept;
 
 typedef struct {
     End end;
-    Room *rooms;     /* a call that tells events takes one out meanwhile: Python's code may run, and come here again */
+    Kept *first, *last; /* the events that are told next */
+    bm_event lent;      /* the one behind them, as the library lends it; of the kind BM_NONE where there is none */
+    uint64_t turn;   /* counts the events that leave: while one is made, Python's code may run, and come here again */
     PyObject *notes; /* what a session looks for among the events, or NULL */
     size_t unread;   /* how much was fed since something was told */
     bool is_whole;   /* whether contents are taken as a whole */
@@ -27,6 +27,53 @@ typedef struct {
 static bm_connection *library_of(Connection *self)
 {
     return (bm_connection *)&self->end.at;
+}
+
+/* Events that are left */
+
+static bool has_left(const Connection *self)
+{
+    return self->first != NULL || self->lent.kind != BM_NONE;
+}
+
+/* Keeps the event that is lent, before what ends the loan. */
+static bool is_kept(Connection *self)
+{
+    const bm_event *is = &self->lent;
+    if (is->kind == BM_NONE)
+        return true;
+    Kept *it = malloc(sizeof *it + is->name_len + is->text_len + is->id_len);
+    if (it == NULL)
+        return false;
+    *it = (Kept){.is = *is};
+    it->is.name = memcpy(it->texts, is->name, is->name_len);
+    it->is.text = memcpy(it->texts + is->name_len, is->text, is->text_len);
+    it->is.id = memcpy(it->texts + is->name_len + is->text_len, is->id, is->id_len);
+    *(self->first == NULL ? &self->first : &self->last->next) = it;
+    self->last = it;
+    self->lent.kind = BM_NONE;
+    return true;
+}
+
+static void drop_first(Connection *self)
+{
+    Kept *first = self->first;
+    self->turn++;
+    if (first == NULL) {
+        self->lent.kind = BM_NONE;
+        return;
+    }
+    self->first = first->next;
+    free(first);
+}
+
+static void drop_all(Connection *self)
+{
+    while (has_left(self))
+        drop_first(self);
+    if (self->end.at != NULL)
+        bm_free(*library_of(self));
+    self->end.at = NULL;
 }
 
 /* Its beginning and its end */
@@ -54,8 +101,7 @@ static PyObject *connection_begin(Connection *self, PyObject *given)
     int32_t code = bm_open(&options, &at);
     if (code != BM_OK)
         return refused(self->end.state, code);
-    if (self->end.at != NULL)
-        bm_free(*library_of(self));
+    drop_all(self);
     self->end.at = at;
     self->is_whole = numbers[0] == BM_CONTENTS;
     return none_of(self->end.state);
@@ -66,22 +112,14 @@ static PyObject *connection_close(Connection *self, PyObject *nothing)
     (void)nothing;
     if (!is_free(&self->end))
         return NULL;
-    if (self->end.at != NULL)
-        bm_free(*library_of(self));
-    self->end.at = NULL;
+    drop_all(self);
     return none_of(self->end.state);
 }
 
 static void connection_end(PyObject *object)
 {
     Connection *self = (Connection *)object;
-    if (self->end.at != NULL)
-        bm_free(*library_of(self));
-    while (self->rooms != NULL) {
-        Room *room = self->rooms;
-        self->rooms = room->next;
-        free(room);
-    }
+    drop_all(self);
     Py_DecRef(self->notes);
     end_free(&self->end);
 }
@@ -95,47 +133,6 @@ static PyObject *connection_note(Connection *self, PyObject *notes)
 }
 
 /* Events */
-
-static Room *room_new(size_t size)
-{
-    Room *room = malloc(sizeof *room + size);
-    if (room != NULL)
-        *room = (Room){.size = size};
-    return room;
-}
-
-static Room *room_taken(Connection *self)
-{
-    Room *room = self->rooms;
-    if (room == NULL)
-        return room_new(ROOM);
-    self->rooms = room->next;
-    return room;
-}
-
-/* (one with events in it goes first, so that they are told first) */
-static void room_back(Connection *self, Room *room)
-{
-    if (room->left == 0 && (self->rooms != NULL || room->size > MOST_ROOM)) {
-        free(room);
-        return;
-    }
-    room->next = self->rooms;
-    self->rooms = room;
-}
-
-/* Makes it greater, where nothing is left in it. */
-static bool has_room(Room **room, size_t needed)
-{
-    if (needed <= (*room)->size)
-        return true;
-    Room *greater = room_new(needed + ROOM);
-    if (greater == NULL)
-        return false;
-    free(*room);
-    *room = greater;
-    return true;
-}
 
 /* Notes of an event what a session looks for. */
 static bool is_noted(Connection *self, const bm_event *is, PyObject *event)
@@ -151,88 +148,84 @@ static bool is_noted(Connection *self, const bm_event *is, PyObject *event)
     return is_well;
 }
 
-/* Moves events that lie in the room to the list, at most so many; one that can't be made stays. */
-static bool moved(Connection *self, Room *room, uint32_t most, PyObject *told)
+/* Moves the first event to the list, unless Python's code ran while it was made, and it is told or gone. One that can't
+ * be made stays. */
+static bool moved(Connection *self, PyObject *list)
 {
-    for (; most > 0 && room->left > 0; most--) {
-        Packed it = packed_at((const uint8_t *)room->bytes + room->at);
-        PyObject *event = event_of(self->end.state, &it);
-        bool is_well = event != NULL && is_noted(self, it.is, event) && PyList_Append(told, event) == 0;
-        Py_DecRef(event);
-        if (!is_well)
-            return false;
-        room->at = it.behind - (const uint8_t *)room->bytes;
-        room->left--;
+    const bm_event is = self->first != NULL ? self->first->is : self->lent;
+    uint64_t turn = self->turn;
+    PyObject *event = event_of(&self->end, &is);
+    bool is_well = event != NULL && is_free(&self->end);
+    if (is_well && turn == self->turn) {
+        is_well = is_noted(self, &is, event) && PyList_Append(list, event) == 0;
+        if (is_well)
+            drop_first(self);
     }
-    return true;
+    Py_DecRef(event);
+    return is_well;
 }
 
-/* Has the library tell its next events, after it was fed where there are bytes. Once events are in the room, nothing
- * but its place and their number is known of them. */
-static int32_t asked(Connection *self, Room *room, const Text *fed, bool is_long, uint32_t most, bm_told *told)
+static int32_t fed_to(Connection *self, const Text *data)
 {
-    bm_connection *library = library_of(self);
-    bool has_left = room->left > 0;
-    int32_t code = BM_OK;
-    uint8_t *at = (uint8_t *)room->bytes;
-    uint32_t bound = most == UINT32_MAX ? 0 : most;
-    *told = (bm_told){.stopped = BM_STOP_MOST};
+    return is_kept(self) ? bm_feed(library_of(self), data->at, data->length) : BM_NO_MEMORY;
+}
+
+/* Asks for the next event. While others go on it asks for more, and keeps them: who comes back may have to wait. One
+ * with a large text stays lent. */
+static int32_t asked(Connection *self, bool is_away)
+{
+    int32_t code;
+    size_t kept = 0;
+    do {
+        code = bm_next(library_of(self), &self->lent);
+        kept += sizeof(Kept) + self->lent.name_len + self->lent.text_len + self->lent.id_len;
+    } while (is_away && self->lent.kind != BM_NONE && kept <= MOST_KEPT && is_kept(self));
+    return has_left(self) ? BM_OK : code;
+}
+
+/* Feeds the bytes, where there are some, and asks for events, where none is left. */
+static int32_t fed_and_asked(Connection *self, const Text *data, bool is_long)
+{
     bool has_gone = go(&self->end, is_long);
-    if (fed != NULL && has_left)
-        code = bm_feed(library, fed->at, fed->length);
-    else if (fed != NULL)
-        code = bm_fed(library, fed->at, fed->length, at, room->size, bound, told);
-    else if (!has_left)
-        bm_tell(library, at, room->size, bound, told);
+    int32_t code = data == NULL ? BM_OK : fed_to(self, data);
+    if (code == BM_OK && !has_left(self))
+        code = asked(self, has_gone);
     come_back(&self->end, has_gone);
-    if (code == BM_OK && !has_left) {
-        room->at = 0;
-        room->left = told->count;
-    }
     return code;
 }
 
 /* All events that there are, at most so many, behind the bytes that are fed where there are some. */
-static bool gathered(Connection *self, Room **room, const Text *fed, bool is_long, uint32_t most, PyObject *list)
+static bool gathered(Connection *self, const Text *data, bool is_long, size_t most, PyObject *list)
 {
-    bm_told told;
-    int32_t code = asked(self, *room, fed, is_long, most, &told);
-    if (code != BM_OK)
-        return refused(self->end.state, code);
-    for (;;) {
-        if (!moved(self, *room, most - (uint32_t)PyList_Size(list), list))
-            break;
-        if (told.stopped == BM_STOP_NONE || (uint32_t)PyList_Size(list) >= most)
-            return true;
-        if (told.stopped == BM_STOP_NO_MEMORY || !has_room(room, told.needed)) {
-            PyErr_NoMemory();
-            break;
-        }
+    for (; (size_t)PyList_Size(list) < most; data = NULL) {
         if (!is_open(&self->end))
-            break;
-        asked(self, *room, NULL, is_long, most, &told);
+            return false;
+        if (data != NULL || !has_left(self)) {
+            int32_t code = fed_and_asked(self, data, is_long);
+            if (code != BM_OK)
+                return refused(self->end.state, code);
+            if (!has_left(self))
+                return true;
+        }
+        if (!moved(self, list))
+            return false;
     }
-    /* (what is told is told, and the rest comes with the next call) */
-    bool is_memory = PyErr_ExceptionMatches(self->end.state->memory_error);
-    if (!is_memory)
-        return false;
-    PyErr_Clear();
-    return PyList_Size(list) > 0 || refused(self->end.state, BM_NO_MEMORY);
+    return true;
 }
 
-static PyObject *told(Connection *self, const Text *fed, bool is_aside, uint32_t most)
+static PyObject *told(Connection *self, const Text *data, bool is_aside, size_t most)
 {
+    const State *state = self->end.state;
     PyObject *list = PyList_New(0);
     if (list == NULL)
-        return refused(self->end.state, BM_NO_MEMORY);
-    Room *room = is_open(&self->end) ? room_taken(self) : NULL;
-    if (room == NULL) {
-        Py_DecRef(list);
-        return PyErr_Occurred() == NULL ? refused(self->end.state, BM_NO_MEMORY) : NULL;
+        return refused(state, BM_NO_MEMORY);
+    self->unread += data == NULL ? 0 : data->length;
+    bool is_well = gathered(self, data, is_aside || self->unread > LONG, most, list);
+    if (!is_well && PyErr_ExceptionMatches(state->memory_error)) {
+        /* (what is told is told, and the rest comes with the next call) */
+        PyErr_Clear();
+        is_well = PyList_Size(list) > 0 || refused(state, BM_NO_MEMORY);
     }
-    self->unread += fed == NULL ? 0 : fed->length;
-    bool is_well = gathered(self, &room, fed, is_aside || self->unread > LONG, most, list);
-    room_back(self, room);
     if (!is_well) {
         Py_DecRef(list);
         return NULL;
@@ -245,7 +238,7 @@ static PyObject *told(Connection *self, const Text *fed, bool is_aside, uint32_t
 static PyObject *connection_events(Connection *self, PyObject *nothing)
 {
     (void)nothing;
-    return told(self, NULL, false, UINT32_MAX);
+    return told(self, NULL, false, SIZE_MAX);
 }
 
 static PyObject *connection_fed(Connection *self, PyObject *given, PyObject *named)
@@ -258,7 +251,7 @@ static PyObject *connection_fed(Connection *self, PyObject *given, PyObject *nam
         return NULL;
     if (!read_bytes(got[0], &data))
         return NULL;
-    PyObject *list = told(self, &data, is_aside, UINT32_MAX);
+    PyObject *list = told(self, &data, is_aside, SIZE_MAX);
     text_end(&data);
     return list;
 }
@@ -286,7 +279,7 @@ static PyObject *connection_feed(Connection *self, PyObject *data)
     if (can_be) {
         self->unread += text.length;
         bool has_gone = go(&self->end, text.length > LONG);
-        code = bm_feed(library_of(self), text.at, text.length);
+        code = fed_to(self, &text);
         come_back(&self->end, has_gone);
     }
     text_end(&text);
@@ -301,7 +294,8 @@ static PyObject *connection_end_input(Connection *self, PyObject *given, PyObjec
     if (!sorted(self->end.state, given, named, names, 0, got) || !read_flag(got[0], &has_failed) ||
         !is_open(&self->end))
         return NULL;
-    return done(self->end.state, bm_end(library_of(self), has_failed ? BM_READ_FAILED : BM_CLOSED));
+    uint32_t how = has_failed ? BM_READ_FAILED : BM_CLOSED;
+    return done(self->end.state, is_kept(self) ? bm_end(library_of(self), how) : BM_NO_MEMORY);
 }
 
 /* What is said: a number, a code and two texts, of which each call has some */
@@ -490,7 +484,13 @@ static PyObject *taken(Connection *self, size_t size)
         return bytes;
     uint8_t *to = (uint8_t *)PyBytes_AsString(bytes);
     bool has_gone = go(&self->end, size > LONG);
-    bm_take(library_of(self), to, size);
+    for (size_t length; size > 0; to += length, size -= length) {
+        const uint8_t *from;
+        length = bm_output(library_of(self), &from);
+        length = length < size ? length : size;
+        memcpy(to, from, length);
+        bm_written(library_of(self), length);
+    }
     come_back(&self->end, has_gone);
     return bytes;
 }
@@ -520,8 +520,7 @@ static PyObject *connection_pending(Connection *self, void *closure)
 static PyObject *connection_is_done(Connection *self, void *closure)
 {
     (void)closure;
-    bool has_left = self->rooms != NULL && self->rooms->left > 0;
-    return is_open(&self->end) ? PyBool_FromLong(!has_left && bm_is_done(library_of(self))) : NULL;
+    return is_open(&self->end) ? PyBool_FromLong(!has_left(self) && bm_is_done(library_of(self))) : NULL;
 }
 
 static PyObject *connection_fault_offset(Connection *self, void *closure)

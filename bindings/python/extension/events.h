@@ -14,7 +14,8 @@ static PyObject *words_of(const uint8_t *at, size_t length)
     return PyUnicode_DecodeUTF8((const char *)at, (Py_ssize_t)length, "strict");
 }
 
-static PyObject *bytes_of(const uint8_t *at, size_t length)
+/* (Where another part of the event was refused memory, nothing of Python's may be called.) */
+static PyObject *bytes_of(End *end, const uint8_t *at, size_t length)
 {
     if (length <= LONG)
         return PyBytes_FromStringAndSize((const char *)at, (Py_ssize_t)length);
@@ -22,15 +23,15 @@ static PyObject *bytes_of(const uint8_t *at, size_t length)
     if (bytes == NULL)
         return NULL;
     char *to = PyBytes_AsString(bytes);
-    PyThreadState *state = PyEval_SaveThread();
+    bool has_gone = go(end, PyErr_Occurred() == NULL);
     memcpy(to, at, length);
-    PyEval_RestoreThread(state);
+    come_back(end, has_gone);
     return bytes;
 }
 
-static PyObject *json_of(const State *state, const uint8_t *at, size_t length)
+static PyObject *json_of(End *end, const uint8_t *at, size_t length)
 {
-    return length == 0 ? none_of(state) : bytes_of(at, length);
+    return length == 0 ? none_of(end->state) : bytes_of(end, at, length);
 }
 
 static PyObject *item_of(PyObject *list, size_t at)
@@ -69,44 +70,32 @@ static PyObject *named_tuple(const State *state, PyObject *kind, size_t count, P
 #define MADE(kind, ...)                                                                                                \
     named_tuple(state, kind, sizeof(PyObject *[]){__VA_ARGS__} / sizeof(PyObject *), (PyObject *[]){__VA_ARGS__})
 
-/* An event as the library packs it: its texts lie right behind it. */
-typedef struct {
-    const bm_event *is;
-    const uint8_t *name, *text, *id, *behind;
-} Packed;
-
-static Packed packed_at(const uint8_t *at)
+static PyObject *replied(End *end, const bm_event *is)
 {
-    const bm_event *it = (const bm_event *)at;
-    const uint8_t *name = at + sizeof *it, *text = name + it->name_len + 1, *id = text + it->text_len + 1;
-    return (Packed){it, name, text, id,
-                    at + ((sizeof *it + it->name_len + it->text_len + it->id_len + 3 + 7) & ~(size_t)7)};
+    const State *state = end->state;
+    if (!(is->flags & BM_ERROR))
+        return MADE(state->replied, number_of(is->key), bytes_of(end, is->text, is->text_len));
+    return MADE(state->failed, number_of(is->key), PyLong_FromLongLong(is->code), words_of(is->name, is->name_len),
+                json_of(end, is->text, is->text_len));
 }
 
-static PyObject *replied(const State *state, const Packed *it)
+/* Its texts are read before anything of Python's can run. */
+static PyObject *event_of(End *end, const bm_event *is)
 {
-    if (!(it->is->flags & BM_ERROR))
-        return MADE(state->replied, number_of(it->is->key), bytes_of(it->text, it->is->text_len));
-    return MADE(state->failed, number_of(it->is->key), PyLong_FromLongLong(it->is->code),
-                words_of(it->name, it->is->name_len), json_of(state, it->text, it->is->text_len));
-}
-
-static PyObject *event_of(const State *state, const Packed *it)
-{
-    const bm_event *is = it->is;
+    const State *state = end->state;
     switch (is->kind) {
     case BM_CALL:
-        return MADE(state->call, number_of(is->number), words_of(it->name, is->name_len),
-                    json_of(state, it->text, is->text_len),
-                    is->flags & BM_REQUEST ? bytes_of(it->id, is->id_len) : none_of(state));
+        return MADE(state->call, number_of(is->number), words_of(is->name, is->name_len),
+                    json_of(end, is->text, is->text_len),
+                    is->flags & BM_REQUEST ? bytes_of(end, is->id, is->id_len) : none_of(state));
     case BM_CANCELLED:
         return MADE(state->cancelled, number_of(is->number));
     case BM_REPLIED:
-        return replied(state, it);
+        return replied(end, is);
     case BM_UNANSWERED:
         return MADE(state->unanswered, number_of(is->key));
     case BM_BROKEN:
-        return MADE(state->broken, number_of(is->number), bytes_of(it->text, is->text_len),
+        return MADE(state->broken, number_of(is->number), bytes_of(end, is->text, is->text_len),
                     item_of(state->defects, is->flags), number_of(is->key), PyLong_FromLongLong(is->code));
     default:
         return MADE(state->over, item_of(state->hows, is->flags));

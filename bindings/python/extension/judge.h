@@ -30,9 +30,11 @@ static PyObject *judge_begin(End *self, PyObject *given)
                                 .rules = (uint32_t)numbers[0],
                                 .framing = (uint32_t)numbers[1],
                                 .content = (uint32_t)numbers[2]};
+    if (!is_free(self))
+        return NULL;
     void *at = NULL;
-    int32_t code = bm_judge_new(&options, &at);
-    if (code != BM_OK || !is_free(self))
+    int32_t code = bm_judge_open(&options, &at);
+    if (code != BM_OK)
         return refused(self->state, code);
     if (self->at != NULL)
         bm_judge_free(*judge_of(self));

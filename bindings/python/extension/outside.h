@@ -102,7 +102,6 @@ typedef struct {
 /* (which the kit's own headers lack, and a system's have) */
 #ifndef UINT64_MAX
 #define UINT64_MAX __UINT64_MAX__
-#define UINT32_MAX __UINT32_MAX__
 #define SIZE_MAX __SIZE_MAX__
 #endif
 

@@ -16,7 +16,7 @@ typedef struct {
     PyObject *call, *cancelled, *replied, *failed, *unanswered, *broken, *over;
     PyObject *defects, *hows; /* lists: the words for the flags of BM_BROKEN and BM_INPUT_OVER */
     PyObject *closed;
-    PyObject *refusals[BM_FULL + 1]; /* the exceptions, by their codes; there is none for BM_OK and BM_SMALL */
+    PyObject *refusals[BM_FULL + 1]; /* the exceptions, by their codes; there is none for BM_OK */
 } State;
 
 /* Where a name lies in the state, and in which module it is. */

@@ -4,6 +4,7 @@ Makes each call of the extension, with each kind of text and each kind of event,
 given back shows. With an extension that refused_memory.c is part of, each request for memory is refused in turn: the call
 then raises NoMemory, and once it is made again all goes on as if nothing had been.
 """
+import contextlib
 import ctypes
 import gc
 import os
@@ -44,10 +45,16 @@ def all_calls(connection_kind, judge_kind, large=LARGE):
                 return
             told.extend(more)
 
+    def events_or_later():
+        """(those that are refused memory wait, whatever is fed meanwhile)"""
+        with contextlib.suppress(MemoryError):
+            told.extend(it.events())
+
     for value in (*HOST, CANCEL, b"nonsense", b"[5]"):
         surely(it.feed, frame(value))
-        events()
-    surely(it.feed, bytearray(frame({"jsonrpc": "2.0", "method": "large", "params": [large]})))
+        events_or_later()
+    values = b"none", b"[6]", {"jsonrpc": "2.0", "method": "large", "params": [large]}
+    surely(it.feed, bytearray(b"".join(map(frame, values))))
     events()
     surely(it.answer, 1, "[1]")
     surely(it.fail, 2, -5, "why", memoryview(b'{"a":1}'))
@@ -62,12 +69,13 @@ def all_calls(connection_kind, judge_kind, large=LARGE):
         out += surely(it.take, 100_000)
     surely(it.feed, frame({"jsonrpc": "2.0", "id": key, "result": {"a": [1]}}))
     surely(it.feed, frame({"jsonrpc": "2.0", "id": first, "error": {"code": 7, "message": "é", "data": [1]}}))
-    events()
+    events_or_later()
     surely(it.end)
     while not it.is_done:
-        event = surely(it.next_event)
-        if event is not None:
-            told.append(event)
+        with contextlib.suppress(MemoryError):
+            event = it.next_event()
+            if event is not None:
+                told.append(event)
     counts, offset = surely(it.counts), surely(getattr, it, "fault_offset")
     cancelled = sorted(set(notes.cancelled))
     surely(it.close)

@@ -1,6 +1,6 @@
 /* The library's calls of a connection, made so that they write down what they are given: for a test of what the
  * extension passes. It is linked with that in the library's place, and test_interface.py reads what is written, by
- * bm_take. */
+ * bm_output. What is lent is no more what it was once the loan is over. */
 #include "bullmyrtle.h"
 
 #include <stdarg.h>
@@ -9,11 +9,16 @@
 #include <string.h>
 #include <unistd.h>
 
+/* The texts of an event: its name, its text and its id. */
+static const char TEXTS[] = "a\0b[10]\"i\"";
+
 typedef struct {
     char said[4096];
     size_t length;
+    size_t lent;
     int events;
     uint32_t done;
+    uint8_t texts[sizeof TEXTS];
 } made;
 
 static void say(bm_connection *connection, const char *form, ...)
@@ -80,8 +85,15 @@ static void wait_for(const uint8_t *bytes, size_t length)
         abort();
 }
 
+/* Ends the loan of an event's texts. */
+static void take_back(bm_connection *connection)
+{
+    memset(((made *)connection->at)->texts, 'x', sizeof TEXTS);
+}
+
 int32_t bm_feed(bm_connection *connection, const uint8_t *bytes, size_t length)
 {
+    take_back(connection);
     wait_for(bytes, length);
     say(connection, "feed %zu %d\n", length, last(bytes, length));
     ((made *)connection->at)->events++;
@@ -90,51 +102,23 @@ int32_t bm_feed(bm_connection *connection, const uint8_t *bytes, size_t length)
 
 int32_t bm_end(bm_connection *connection, uint32_t how)
 {
+    take_back(connection);
     say(connection, "end %u\n", how);
     return BM_OK;
 }
 
-static const char TEXTS[] = "a\0b\0[10]\0\"i\"";
-
-static int tell(bm_connection *connection, bm_event *event, uint8_t *room, size_t length)
+int32_t bm_next(bm_connection *connection, bm_event *event)
 {
+    made *it = connection->at;
+    take_back(connection);
     memset(event, 0, sizeof *event);
+    if (it->events == 0)
+        return BM_OK;
+    it->events--;
+    memcpy(it->texts, TEXTS, sizeof TEXTS);
     event->kind = BM_CALL, event->flags = BM_REQUEST, event->number = UINT64_MAX;
     event->name_len = 3, event->text_len = 4, event->id_len = 3;
-    if (length < sizeof TEXTS) {
-        return 0;
-    }
-    memcpy(room, TEXTS, sizeof TEXTS);
-    ((made *)connection->at)->events--;
-    return 1;
-}
-
-void bm_tell(bm_connection *connection, uint8_t *room, size_t length, uint32_t most, bm_told *told)
-{
-    memset(told, 0, sizeof *told);
-    while (((made *)connection->at)->events) {
-        if (most && told->count == most) {
-            told->stopped = BM_STOP_MOST;
-            return;
-        }
-        size_t at = (told->used + 7) / 8 * 8;
-        if ((uintptr_t)room % 8 || length < at + sizeof(bm_event) + sizeof TEXTS) {
-            told->stopped = BM_STOP_ROOM, told->needed = sizeof(bm_event) + sizeof TEXTS;
-            return;
-        }
-        bm_event event;
-        tell(connection, &event, room + at + sizeof event, sizeof TEXTS);
-        memcpy(room + at, &event, sizeof event);
-        told->used = at + sizeof event + sizeof TEXTS;
-        told->count++;
-    }
-}
-
-int32_t bm_fed(bm_connection *connection, const uint8_t *bytes, size_t length, uint8_t *room, size_t room_length,
-               uint32_t most, bm_told *told)
-{
-    bm_feed(connection, bytes, length);
-    bm_tell(connection, room, room_length, most, told);
+    event->name = it->texts, event->text = it->texts + 3, event->id = it->texts + 7;
     return BM_OK;
 }
 
@@ -198,14 +182,23 @@ size_t bm_pending(bm_connection *connection)
     return ((made *)connection->at)->length;
 }
 
-size_t bm_take(bm_connection *connection, uint8_t *room, size_t length)
+/* (in blocks, of which none is as long as what is read) */
+size_t bm_output(bm_connection *connection, const uint8_t **bytes)
 {
     made *it = connection->at;
-    size_t taken = length < it->length ? length : it->length;
-    memcpy(room, it->said, taken);
-    it->length -= taken;
-    memmove(it->said, it->said + taken, it->length);
-    return taken;
+    *bytes = (const uint8_t *)it->said;
+    it->lent = it->length < 7 ? it->length : 7;
+    return it->lent;
+}
+
+int32_t bm_written(bm_connection *connection, size_t length)
+{
+    made *it = connection->at;
+    if (length > it->lent)
+        return BM_SETTINGS;
+    it->lent = 0, it->length -= length;
+    memmove(it->said, it->said + length, it->length);
+    return BM_OK;
 }
 
 bool bm_is_done(bm_connection *connection)

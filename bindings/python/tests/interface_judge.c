@@ -19,9 +19,9 @@ static FILE *said(void)
 
 static int told;
 
-int32_t bm_judge_new(const bm_judge_options *options, void **at)
+int32_t bm_judge_open(const bm_judge_options *options, void **at)
 {
-    fprintf(said(), "new %d %u %u %u %u\n", options->size == sizeof *options, options->rules, options->framing,
+    fprintf(said(), "open %d %u %u %u %u\n", options->size == sizeof *options, options->rules, options->framing,
             options->content, options->ids);
     if (options->rules == BM_RULES_MCP)
         return BM_NO_MEMORY;

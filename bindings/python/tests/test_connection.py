@@ -1,6 +1,9 @@
 """The lower floor: each call, each event and each refusal."""
+import contextlib
+import gc
 import os
 import re
+import sys
 import threading
 
 from helping import TOP, Case, frame, notice, request, rows
@@ -74,11 +77,63 @@ class Events(Case):
             )
 
     def test_all_events_come_at_once_however_large_they_are(self):
-        with Connection() as connection:
-            sizes = [1, 300_000, 5, 70_000, 70_000, 1_500_000, 2]
-            connection.feed(b"".join(frame(request(it, "x", ["x" * it])) for it in sizes))
-            self.assertEqual([len(it.params) for it in connection.events()], [it + 4 for it in sizes])
-            self.assertEqual(connection.events(), [])
+        sizes = [1, 300_000, 5, 70_000, 70_000, *[7] * 2_000, 1_500_000, 2]
+        data = b"".join(frame(request(it, "x", ["x" * it])) for it in sizes)
+        for way in (
+            lambda it: it.feed(data) or it.events(),
+            lambda it: it.feed(data) or list(iter(it.next_event, None)),
+            lambda it: it.fed(data),
+            lambda it: it.fed(data, True),
+        ):
+            with Connection() as connection:
+                self.assertEqual([len(it.params) for it in way(connection)], [it + 4 for it in sizes])
+                self.assertEqual(connection.events(), [])
+
+    def test_what_runs_meanwhile_may_ask_for_events_too(self):
+        """While an event is made, Python may run what ends objects."""
+        data = b"".join(frame(request(it, "x" * it, ["x" * it])) for it in range(200))
+        for other in (
+            lambda it: told.extend(it.events()),
+            lambda it: it.feed(frame(notice("fed"))),
+            lambda it: told.append(it.next_event()) or it.feed(frame(notice("fed"))),
+        ):
+            told = []
+            with Connection() as connection:
+                connection.feed(data)
+                with self.runs_meanwhile(lambda: other(connection)) as times:
+                    found = connection.events()
+                told = [it for it in (*told, *found, *connection.events()) if it is not None]
+                self.assertEqual(sorted(it.number for it in told), list(range(1, len(told) + 1)))
+                names = sorted(it.method for it in told if it.method != "fed")
+                self.assertEqual(names, ["x" * it for it in range(200)])
+                self.assertEqual(len(told) - len(names), connection.counts().calls - 200)
+                if sys.version_info < (3, 12):
+                    self.assertGreater(len(times), 2)
+
+    @contextlib.contextmanager
+    def runs_meanwhile(self, what):
+        """Python ends objects as often as it can, and calls this then; up to 3.11 it does so as tuples are made."""
+        times = []
+
+        class Ended:
+            def __init__(self):
+                self.itself = self
+
+            def __del__(self):
+                if len(times) < 50:
+                    times.append(what())
+                    Ended()
+
+        before = gc.get_threshold()
+        gc.collect()
+        Ended()
+        gc.set_threshold(1)
+        try:
+            yield times
+        finally:
+            gc.set_threshold(*before)
+            times.extend([None] * 50)
+            gc.collect()
 
     def test_texts_of_each_length_lie_where_they_should(self):
         with lines() as connection:

@@ -11,7 +11,7 @@ from bullmyrtle import BadSettings, NoMemory, _library
 from bullmyrtle.judge import PROVED, Finding, Judge, _rules
 
 SAID = """\
-new 1 1 1 99 0
+open 1 1 1 99 0
 saw 1 0 2 255
 saw 1 1 0 -1
 saw 1 1 3 99
@@ -64,7 +64,7 @@ class Interface(Case):
     def test_no_memory(self):
         with self.assertRaises(NoMemory):
             self.kind("mcp", "contents")
-        self.assertEqual(self.read(), "new 1 2 2 0 0\n")
+        self.assertEqual(self.read(), "open 1 2 2 0 0\n")
 
     def test_tables(self):
         self.library.say_tables()

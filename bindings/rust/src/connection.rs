@@ -1,20 +1,13 @@
-use crate::event::{texts_length, Event, EventRefs, Events};
-use crate::{sys, Json, Outgoing, Refusal, Report, Room, Sayings, Settings, Stop};
+use crate::event::lent;
+use crate::{sys, Event, EventRef, Json, Outgoing, Refusal, Report, Sayings, Settings};
 use std::fmt::{self, Debug, Formatter};
 use std::io::{self, ErrorKind, Write};
-use std::mem::{size_of, take};
+use std::mem::MaybeUninit;
 use std::ops::Range;
-use std::ptr::null_mut;
+use std::ptr::{null, null_mut};
 
 /// The number of nobody: a call on behalf of it is your own.
 pub const NOBODY: u64 = 0;
-
-/// How many bytes are taken at once, to be written.
-const PIECE: usize = 1 << 16;
-
-/// The room for events, in words of 64 bits: what it begins with, and what is kept of it.
-const ROOM: usize = 1 << 10;
-const MOST_ROOM: usize = 1 << 17;
 
 /// How the input ended.
 #[derive(Clone, Copy, Debug, PartialEq, Eq, Hash)]
@@ -27,11 +20,11 @@ pub enum Ended {
 
 /// One end of a JSON-RPC 2.0 conversation, without input and output, threads or a clock.
 ///
-/// Feed it the bytes that you have read, ask it for events, answer and call, and take the bytes that are to be written,
-/// in whatever order you like. A call that gives a [`Refusal`] has changed nothing.
+/// Feed it the bytes that you have read, ask it for events, answer and call, and write the bytes that are to be
+/// written, in whatever order you like. A call that gives a [`Refusal`] has changed nothing.
 ///
-/// All bytes are copied within the call. A connection may go to another thread ([`Send`]). It isn't [`Sync`], since it
-/// takes one call at a time: share it in a `Mutex`.
+/// What you pass is copied within the call. A connection may go to another thread ([`Send`]). It isn't [`Sync`], since
+/// it takes one call at a time: share it in a `Mutex`.
 ///
 /// ```compile_fail
 /// fn is_sync<T: Sync>() {}
@@ -39,11 +32,6 @@ pub enum Ended {
 /// ```
 pub struct Connection {
     handle: sys::bm_connection,
-    has_contents: bool,
-    /// What was taken and isn't written yet, since a writer failed.
-    unwritten: Vec<u8>,
-    /// (of words, since events lie at multiples of 8)
-    room: Vec<u64>,
 }
 
 // SAFETY: connections share no data, and any thread may make the calls of one, one at a time. That is so here, since a
@@ -52,7 +40,7 @@ unsafe impl Send for Connection {}
 
 // SAFETY of the calls below: the handle is that of a connection which `bm_open` has made and only `drop` frees. Each
 // pointer to bytes comes with their length, and isn't null, since slices have no null. What a call writes to is
-// borrowed for it alone. The library keeps no pointer.
+// borrowed for it alone. The library keeps no pointer. What it lends is borrowed as long as no call can end the loan.
 
 impl Connection {
     /// Makes a connection.
@@ -63,20 +51,13 @@ impl Connection {
     ///
     /// # Panics
     ///
-    /// Where the library that was linked has another interface than this crate is for, or lacks calls that it needs.
+    /// Where the library that was linked has another interface than this crate is for.
     pub fn new(settings: Settings) -> Result<Self, Refusal> {
         let found = unsafe { sys::bm_interface() };
         assert_eq!(found, sys::BM_INTERFACE, "the library has another interface");
-        let has_all = unsafe { sys::bm_has(sys::BM_HAS_TOGETHER) && sys::bm_has(sys::BM_HAS_OPEN) };
-        assert!(has_all, "the library is older than this crate");
         let (given, mut at) = (settings.in_c()?, null_mut());
         Refusal::check(unsafe { sys::bm_open(&given, &mut at) })?;
-        Ok(Connection {
-            handle: sys::bm_connection { at },
-            has_contents: settings.has_contents(),
-            unwritten: Vec::new(),
-            room: Vec::new(),
-        })
+        Ok(Connection { handle: sys::bm_connection { at } })
     }
 
     /// (A copy of the struct is the same connection.)
@@ -152,30 +133,51 @@ impl Connection {
     ///
     /// [`Refusal::NoMemory`]. The event comes again.
     pub fn next_event(&mut self) -> Result<Option<Event>, Refusal> {
-        self.make_room(ROOM);
-        let mut head = sys::bm_event::default();
-        loop {
-            let (room, length) = (self.room.as_mut_ptr().cast(), self.room.len() * size_of::<u64>());
-            let code = unsafe { sys::bm_next(&mut self.handle, &mut head, room, length) };
-            if code != sys::BM_SMALL {
-                Refusal::check(code)?;
-                let event = Event::read(&head, self.bytes_in_room());
-                self.give_room_back();
-                return Ok(event);
-            }
-            self.make_room(texts_length(&head) / size_of::<u64>() + 1);
-        }
+        Ok(self.next_event_ref()?.map(EventRef::to_owned))
     }
 
-    /// All events that there are now. It is [`next_event`](Self::next_event) until there is none, by fewer calls of the
-    /// library; but all that has come is then open at once. A host that works on one event at a time is quicker by
-    /// `next_event`, and holds less.
+    /// The next event as [`next_event`](Self::next_event) gives it, with texts that the connection lends: nothing is
+    /// copied. It borrows the connection, so be done with its texts before you answer, as where params are read at
+    /// once.
+    ///
+    /// ```
+    /// use bullmyrtle::{Connection, EventRef, Framing, Settings};
+    ///
+    /// let mut connection = Connection::new(Settings::new().framing(Framing::Lines))?;
+    /// connection.feed(b"{\"jsonrpc\":\"2.0\",\"method\":\"length\",\"params\":[1.50],\"id\":1}\n")?;
+    /// while let Some(event) = connection.next_event_ref()? {
+    ///     match event {
+    ///         EventRef::Request { number, params, .. } => {
+    ///             let result = params.unwrap_or("").len().to_string();
+    ///             connection.answer(number, &result)?;
+    ///         }
+    ///         EventRef::Notification { number, .. } => connection.close(number)?,
+    ///         _ => {}
+    ///     }
+    /// }
+    /// assert_eq!(connection.take_bytes(), b"{\"id\":1,\"jsonrpc\":\"2.0\",\"result\":6}\n");
+    /// # Ok::<(), bullmyrtle::Refusal>(())
+    /// ```
+    ///
+    /// # Errors
+    ///
+    /// [`Refusal::NoMemory`]. The event comes again.
+    pub fn next_event_ref(&mut self) -> Result<Option<EventRef<'_>>, Refusal> {
+        let mut told = MaybeUninit::uninit();
+        Refusal::check(unsafe { sys::bm_next(&mut self.handle, told.as_mut_ptr()) })?;
+        // SAFETY: a call that succeeds writes all of the event, and only calls on the connection, which is borrowed,
+        // end the loan of its texts.
+        Ok(unsafe { EventRef::read(&told.assume_init()) })
+    }
+
+    /// All events that there are now: [`next_event`](Self::next_event) until there is none. All that has come is then
+    /// open at once, so a host that works on one event at a time holds less by `next_event`.
     ///
     /// ```
     /// # let mut connection = bullmyrtle::Connection::new(bullmyrtle::Settings::new())?;
     /// let key = connection.call(bullmyrtle::NOBODY, "a", None)?;
     /// connection.end(bullmyrtle::Ended::Closed)?;
-    /// let events: Vec<_> = connection.events()?.collect();
+    /// let events = connection.events()?;
     /// assert_eq!(events[0], bullmyrtle::Event::Unanswered { key });
     /// assert_eq!(events.len(), 2);
     /// # Ok::<(), bullmyrtle::Refusal>(())
@@ -184,137 +186,40 @@ impl Connection {
     /// # Errors
     ///
     /// [`Refusal::NoMemory`], where no event could be had. Those that are left come with the next call.
-    pub fn events(&mut self) -> Result<Events, Refusal> {
+    pub fn events(&mut self) -> Result<Vec<Event>, Refusal> {
         let mut told = Vec::new();
         loop {
-            match self.events_in_room(&mut told) {
-                Ok(true) => {}
+            match self.next_event() {
+                Ok(Some(event)) => told.push(event),
                 Err(why) if told.is_empty() => return Err(why),
-                Ok(false) | Err(_) => return Ok(Events::new(told)),
+                Ok(None) | Err(_) => return Ok(told),
             }
         }
     }
 
-    /// Appends the events that fit the room, and says whether there may be more.
-    fn events_in_room(&mut self, told: &mut Vec<Event>) -> Result<bool, Refusal> {
-        self.make_room(ROOM);
-        let (mut used, mut count) = (0, 0);
-        let (room, length) = (self.room.as_mut_ptr().cast::<u8>(), self.room.len() * size_of::<u64>());
-        // SAFETY: the room has so many bytes, and its first one lies at a multiple of 8.
-        let code = unsafe { sys::bm_next_all(&mut self.handle, room, length, &mut used, &mut count) };
-        if code == sys::BM_SMALL {
-            self.make_room(used / size_of::<u64>() + 1);
-            return Ok(true);
-        }
-        Refusal::check(code)?;
-        told.extend(EventRefs::new(&self.bytes_in_room()[..used], count).map(|it| it.to_owned()));
-        self.give_room_back();
-        Ok(count > 0)
-    }
-
-    /// Feeds bytes, and tells at most so many of the next events into the room, in one call of the library. It says why it
-    /// tells no more. The events lie in the room, and are read there without a copy.
+    /// Says all of these things, one after the other and each by itself. What came of each is told by the sayings, to
+    /// which nothing more is to be added before they are [cleared](crate::Sayings::clear).
     ///
     /// ```
-    /// use bullmyrtle::{Connection, EventRef, Framing, Room, Sayings, Settings, Stop};
+    /// use bullmyrtle::{Connection, EventRef, Framing, Sayings, Settings};
     ///
     /// let mut connection = Connection::new(Settings::new().framing(Framing::Lines))?;
-    /// let (mut room, mut sayings) = (Room::new(), Sayings::new());
-    /// let bytes = b"{\"jsonrpc\":\"2.0\",\"method\":\"echo\",\"params\":[7],\"id\":1}\n";
-    /// assert_eq!(connection.fed(bytes, 100, &mut room)?, Stop::NoEvent);
-    /// for event in room.events() {
+    /// let mut sayings = Sayings::new();
+    /// connection.feed(b"{\"jsonrpc\":\"2.0\",\"method\":\"echo\",\"params\":[7],\"id\":1}\n")?;
+    /// while let Some(event) = connection.next_event_ref()? {
     ///     match event {
     ///         EventRef::Request { number, params, .. } => sayings.answer(number, params.unwrap_or("null")),
     ///         EventRef::Notification { number, .. } => sayings.close(number),
     ///         _ => {}
     ///     }
     /// }
-    /// let output = connection.say_all(&mut sayings);
-    /// assert_eq!(output, b"{\"id\":1,\"jsonrpc\":\"2.0\",\"result\":[7]}\n");
+    /// connection.say_all(&mut sayings);
     /// assert_eq!(sayings.refused(), 0);
+    /// assert_eq!(connection.take_bytes(), b"{\"id\":1,\"jsonrpc\":\"2.0\",\"result\":[7]}\n");
     /// # Ok::<(), bullmyrtle::Refusal>(())
     /// ```
-    ///
-    /// # Errors
-    ///
-    /// [`Refusal::Over`] where the input was ended by [`end`](Self::end), [`Refusal::NoMemory`]: nothing was fed, and
-    /// nothing told.
-    pub fn fed(&mut self, bytes: &[u8], most: u32, room: &mut Room) -> Result<Stop, Refusal> {
-        let mut told = sys::bm_told::default();
-        let (words, length) = room.clear();
-        // SAFETY: the room has so many bytes, and its first one lies at a multiple of 8.
-        let code =
-            unsafe { sys::bm_fed(&mut self.handle, bytes.as_ptr(), bytes.len(), words, length, most, &mut told) };
-        Refusal::check(code)?;
-        Ok(self.told_into(room, most, told))
-    }
-
-    /// Tells at most so many of the next events into the room, as [`fed`](Self::fed) does, without feeding.
-    pub fn tell(&mut self, most: u32, room: &mut Room) -> Stop {
-        let told = self.tell_once(most, room);
-        self.told_into(room, most, told)
-    }
-
-    fn tell_once(&mut self, most: u32, room: &mut Room) -> sys::bm_told {
-        let mut told = sys::bm_told::default();
-        let (words, length) = room.clear();
-        // SAFETY: as in `fed`.
-        unsafe { sys::bm_tell(&mut self.handle, words, length, most, &mut told) };
-        told
-    }
-
-    /// Where not even the first event fits, the room grows.
-    fn told_into(&mut self, room: &mut Room, most: u32, mut told: sys::bm_told) -> Stop {
-        while told.count == 0 && told.stopped == sys::BM_STOP_ROOM {
-            room.grow(told.needed);
-            told = self.tell_once(most, room);
-        }
-        room.fill(&told);
-        Stop::of(told.stopped)
-    }
-
-    /// Says all of these things, one after the other and each by itself, and gives the first bytes that are to be
-    /// written then: all of them, or with [`Framing::Contents`](crate::Framing::Contents) the next text. What came of
-    /// each is told by the sayings, to which nothing more is to be added before they are
-    /// [cleared](crate::Sayings::clear).
-    #[must_use]
-    pub fn say_all(&mut self, sayings: &mut Sayings) -> Vec<u8> {
-        let mut output = take(&mut self.unwritten);
-        let begun = output.len();
-        let has_text = self.has_contents && begun > 0;
-        output.resize(begun + if has_text { 0 } else { sayings.guess() }, 0);
-        let said = sayings.say(&mut self.handle, &mut output[begun..]);
-        output.truncate(begun + said.taken);
-        if self.has_contents && !output.is_empty() {
-            return output;
-        }
-        if said.pending > 0 {
-            let (at, mut count) = (output.len(), 0);
-            output.resize(at + said.pending, 0);
-            let room = output[at..].as_mut_ptr();
-            let code = unsafe { sys::bm_taken(&mut self.handle, room, said.pending, &mut count) };
-            assert_eq!(code, sys::BM_OK, "what is pending fits a room of its size");
-            output.truncate(at + count);
-        }
-        output
-    }
-
-    fn make_room(&mut self, words: usize) {
-        if self.room.len() < words {
-            self.room.resize(words, 0);
-        }
-    }
-
-    /// A room that a large event has needed isn't kept.
-    fn give_room_back(&mut self) {
-        if self.room.len() > MOST_ROOM {
-            self.room = Vec::new();
-        }
-    }
-
-    fn bytes_in_room(&self) -> &[u8] {
-        // SAFETY: so many bytes lie there, and each is written.
-        unsafe { std::slice::from_raw_parts(self.room.as_ptr().cast(), self.room.len() * size_of::<u64>()) }
+    pub fn say_all(&mut self, sayings: &mut Sayings) {
+        sayings.say(&mut self.handle);
     }
 
     /// Calls the other side, on behalf of the open call `number` or of [`NOBODY`], and gives the key under which the
@@ -444,50 +349,69 @@ impl Connection {
     /// text. It isn't limited: stop feeding while it is large.
     #[must_use]
     pub fn pending(&self) -> usize {
-        let unwritten = self.unwritten.len();
-        if self.has_contents && unwritten > 0 {
-            return unwritten;
-        }
-        unwritten + unsafe { sys::bm_pending(&mut self.handle()) }
+        unsafe { sys::bm_pending(&mut self.handle()) }
     }
 
-    /// Moves the first bytes that are to be written to the room, as many as it has room for, and gives how many they
-    /// are. With [`Framing::Contents`](crate::Framing::Contents) it moves one whole text, or none where the room is too
-    /// small for it.
+    /// Lends bytes that are to be written, none only where there is nothing. It may be less than
+    /// [`pending`](Self::pending): say by [`written`](Self::written) how many of them were written, and ask again. With
+    /// [`Framing::Contents`](crate::Framing::Contents) it is the next text.
+    ///
+    /// ```
+    /// # use std::io::Write;
+    /// # let mut connection = bullmyrtle::Connection::new(bullmyrtle::Settings::new())?;
+    /// # let mut socket = Vec::new();
+    /// while !connection.output().is_empty() {
+    ///     let count = socket.write(connection.output())?;
+    ///     connection.written(count)?;
+    /// }
+    /// # Ok::<(), Box<dyn std::error::Error>>(())
+    /// ```
     #[must_use]
-    pub fn take(&mut self, room: &mut [u8]) -> usize {
-        let unwritten = self.unwritten.len();
-        if self.has_contents && unwritten > room.len() {
-            return 0;
+    pub fn output(&self) -> &[u8] {
+        let mut at = null();
+        // SAFETY: what is lent holds until `written` or `drop`, both of which borrow the connection for themselves.
+        unsafe {
+            let length = sys::bm_output(&mut self.handle(), &mut at);
+            lent(at, length)
         }
-        let first = unwritten.min(room.len());
-        room[..first].copy_from_slice(&self.unwritten[..first]);
-        self.unwritten.drain(..first);
-        if self.has_contents && first > 0 {
-            return first;
-        }
-        let rest = &mut room[first..];
-        first + unsafe { sys::bm_take(&mut self.handle, rest.as_mut_ptr(), rest.len()) }
+    }
+
+    /// Says that the first bytes of the [`output`](Self::output) were written, and how many they are.
+    ///
+    /// # Errors
+    ///
+    /// [`Refusal::Settings`] where so many aren't lent, or with [`Framing::Contents`](crate::Framing::Contents) where
+    /// it is a part of a text.
+    pub fn written(&mut self, count: usize) -> Result<(), Refusal> {
+        Refusal::check(unsafe { sys::bm_written(&mut self.handle, count) })
     }
 
     /// Takes all that is to be written; with [`Framing::Contents`](crate::Framing::Contents) the next text. It is empty
     /// where there is nothing.
     #[must_use]
     pub fn take_bytes(&mut self) -> Vec<u8> {
-        if self.has_contents && !self.unwritten.is_empty() {
-            return take(&mut self.unwritten);
-        }
-        let mut bytes = vec![0; self.pending()];
-        let count = self.take(&mut bytes);
-        bytes.truncate(count);
+        let mut bytes = Vec::new();
+        self.take_into(&mut bytes);
         bytes
+    }
+
+    /// Moves what [`take_bytes`](Self::take_bytes) takes to the end of some bytes.
+    pub(crate) fn take_into(&mut self, bytes: &mut Vec<u8>) {
+        let end = bytes.len() + self.pending();
+        bytes.reserve(end - bytes.len());
+        while bytes.len() < end {
+            let output = self.output();
+            bytes.extend_from_slice(output);
+            let count = output.len();
+            self.written(count).expect("so many are lent");
+        }
     }
 
     /// Writes all that is to be written, flushes the writer, and gives how many bytes were written.
     ///
     /// What a writer didn't take is kept, and is written by the next call: so a socket that would block loses nothing.
-    /// With [`Framing::Contents`](crate::Framing::Contents) nothing stands between two texts: take each by
-    /// [`take_bytes`](Self::take_bytes) there.
+    /// With [`Framing::Contents`](crate::Framing::Contents) each text is one write, and nothing stands between two:
+    /// where the writer has no messages either, take each by [`take_bytes`](Self::take_bytes).
     ///
     /// [`Stdout`](std::io::Stdout) is buffered by lines, and so writes a frame's head before its content. A file isn't:
     ///
@@ -503,42 +427,33 @@ impl Connection {
     ///
     /// # Errors
     ///
-    /// Those of the writer. `Interrupted` is tried again.
+    /// Those of the writer. `Interrupted` is tried again. [`ErrorKind::WriteZero`] where it takes nothing, or only a
+    /// part of a text of [`Framing::Contents`](crate::Framing::Contents).
     pub fn write_to(&mut self, mut writer: impl Write) -> io::Result<usize> {
         let mut written = 0;
-        while self.has_unwritten() {
-            match writer.write(&self.unwritten) {
+        loop {
+            let output = self.output();
+            if output.is_empty() {
+                writer.flush()?;
+                return Ok(written);
+            }
+            match writer.write(output) {
                 Ok(0) => return Err(ErrorKind::WriteZero.into()),
                 Ok(count) => {
-                    self.unwritten.drain(..count);
+                    self.written(count).map_err(|_| ErrorKind::WriteZero)?;
                     written += count;
                 }
                 Err(why) if why.kind() == ErrorKind::Interrupted => {}
                 Err(why) => return Err(why),
             }
         }
-        writer.flush()?;
-        Ok(written)
     }
 
-    /// Takes a piece to be written where there is none, and says whether there is one.
-    fn has_unwritten(&mut self) -> bool {
-        if self.unwritten.is_empty() {
-            let pending = self.pending();
-            let mut piece = take(&mut self.unwritten);
-            piece.resize(if self.has_contents { pending } else { pending.min(PIECE) }, 0);
-            let count = self.take(&mut piece);
-            piece.truncate(count);
-            self.unwritten = piece;
-        }
-        !self.unwritten.is_empty()
-    }
-
-    /// Whether all is done: the input is over, every event is told, every call that came is answered, every byte taken
-    /// or written.
+    /// Whether all is done: the input is over, every event is told, every call that came is answered, every byte
+    /// written or taken.
     #[must_use]
     pub fn is_done(&self) -> bool {
-        self.unwritten.is_empty() && unsafe { sys::bm_is_done(&mut self.handle()) }
+        unsafe { sys::bm_is_done(&mut self.handle()) }
     }
 
     /// What has happened so far.

@@ -1,8 +1,7 @@
 use crate::sys;
 use std::error::Error;
 use std::fmt::{self, Display, Formatter};
-use std::mem::size_of;
-use std::vec;
+use std::slice;
 
 /// What a connection tells. Params, ids, results and data are compact JSON.
 #[derive(Clone, Debug, PartialEq, Eq, Hash)]
@@ -73,8 +72,8 @@ pub enum Defect {
     },
 }
 
-/// An [`Event`] whose texts lie in a [`Room`](crate::Room): nothing is copied. [`to_owned`](Self::to_owned) gives one
-/// that stands alone.
+/// An [`Event`] whose texts the connection lends: nothing is copied. [`to_owned`](Self::to_owned) gives one that stands
+/// alone.
 #[derive(Clone, Copy, Debug, PartialEq, Eq, Hash)]
 pub enum EventRef<'a> {
     /// See [`Event::Request`].
@@ -127,7 +126,7 @@ pub enum EventRef<'a> {
     },
 }
 
-/// An [`ErrorObject`] whose texts lie in a [`Room`](crate::Room).
+/// An [`ErrorObject`] whose texts the connection lends.
 #[derive(Clone, Copy, Debug, PartialEq, Eq, Hash)]
 pub struct ErrorRef<'a> {
     /// What kind of error it is.
@@ -167,63 +166,35 @@ impl<'a> EventRef<'a> {
         }
     }
 
-    /// The event with this head and these texts, or none.
-    pub(crate) fn read(head: &sys::bm_event, texts: &'a [u8]) -> Option<Self> {
-        let (name, texts) = texts.split_at(head.name_len);
-        let (given, texts) = texts[1..].split_at(head.text_len);
-        let id = &texts[1..][..head.id_len];
-        let (number, key) = (head.number, head.key);
-        Some(match head.kind {
+    /// The event that the library told, or none.
+    ///
+    /// # Safety
+    ///
+    /// Its texts stay lent as long as `'a`.
+    pub(crate) unsafe fn read(told: &sys::bm_event) -> Option<Self> {
+        // SAFETY: so many bytes of each are lent.
+        let (name, given, id) =
+            unsafe { (lent(told.name, told.name_len), lent(told.text, told.text_len), lent(told.id, told.id_len)) };
+        let (number, key) = (told.number, told.key);
+        Some(match told.kind {
             sys::BM_NONE => return None,
-            sys::BM_CALL if head.flags == sys::BM_REQUEST => {
+            sys::BM_CALL if told.flags == sys::BM_REQUEST => {
                 EventRef::Request { number, id: text(id), method: text(name), params: text_if_any(given) }
             }
             sys::BM_CALL => EventRef::Notification { number, method: text(name), params: text_if_any(given) },
             sys::BM_CANCELLED => EventRef::Cancelled { number },
-            sys::BM_REPLIED if head.flags == sys::BM_ERROR => {
-                let error = ErrorRef { code: head.code, message: text(name), data: text_if_any(given) };
+            sys::BM_REPLIED if told.flags == sys::BM_ERROR => {
+                let error = ErrorRef { code: told.code, message: text(name), data: text_if_any(given) };
                 EventRef::Replied { key, reply: Err(error) }
             }
             sys::BM_REPLIED => EventRef::Replied { key, reply: Ok(text(given)) },
             sys::BM_UNANSWERED => EventRef::Unanswered { key },
-            sys::BM_INPUT_OVER => EventRef::Over(Close::of(head.flags)),
-            sys::BM_BROKEN => EventRef::Broken { place: number, start: given, defect: Defect::of(head) },
+            sys::BM_INPUT_OVER => EventRef::Over(Close::of(told.flags)),
+            sys::BM_BROKEN => EventRef::Broken { place: number, start: given, defect: Defect::of(told) },
             kind => unreachable!("the library told an event of the kind {kind}"),
         })
     }
 }
-
-/// The events that a room holds, in their order.
-#[derive(Clone, Debug)]
-pub struct EventRefs<'a> {
-    bytes: &'a [u8],
-    count: u32,
-}
-
-impl<'a> EventRefs<'a> {
-    /// So many events, as the library packs them: each head at a multiple of 8, and its texts right behind it.
-    pub(crate) fn new(bytes: &'a [u8], count: u32) -> Self {
-        EventRefs { bytes, count }
-    }
-}
-
-impl<'a> Iterator for EventRefs<'a> {
-    type Item = EventRef<'a>;
-
-    fn next(&mut self) -> Option<EventRef<'a>> {
-        self.count = self.count.checked_sub(1)?;
-        let (head, behind) = read_head(self.bytes);
-        let length = size_of::<sys::bm_event>() + texts_length(&head);
-        self.bytes = self.bytes.get((length + 7) & !7..).unwrap_or_default();
-        EventRef::read(&head, behind)
-    }
-
-    fn size_hint(&self) -> (usize, Option<usize>) {
-        (self.count as usize, Some(self.count as usize))
-    }
-}
-
-impl ExactSizeIterator for EventRefs<'_> {}
 
 /// An error that the other side replied with.
 #[derive(Clone, Debug, PartialEq, Eq, Hash)]
@@ -312,18 +283,26 @@ impl Close {
 }
 
 impl Defect {
-    fn of(head: &sys::bm_event) -> Self {
-        match head.flags {
+    fn of(told: &sys::bm_event) -> Self {
+        match told.flags {
             sys::BM_UNREADABLE => Defect::Unreadable,
-            sys::BM_INVALID => Defect::Invalid { first: head.key, count: head.code as u64 },
-            _ => unreachable!("the library told a defect {}", head.flags),
+            sys::BM_INVALID => Defect::Invalid { first: told.key, count: told.code as u64 },
+            _ => unreachable!("the library told a defect {}", told.flags),
         }
     }
 }
 
-/// How many bytes the texts of an event take, each with the zero byte behind it.
-pub(crate) fn texts_length(head: &sys::bm_event) -> usize {
-    head.name_len + head.text_len + head.id_len + 3
+/// Bytes that are lent. (Of none the pointer may be anything.)
+///
+/// # Safety
+///
+/// So many bytes stay lent there as long as `'a`.
+pub(crate) unsafe fn lent<'a>(at: *const u8, length: usize) -> &'a [u8] {
+    if length == 0 {
+        return b"";
+    }
+    // SAFETY: as above.
+    unsafe { slice::from_raw_parts(at, length) }
 }
 
 /// (All texts that the library tells are UTF-8, but for the start of a broken content.)
@@ -334,47 +313,3 @@ fn text(bytes: &[u8]) -> &str {
 fn text_if_any(bytes: &[u8]) -> Option<&str> {
     (!bytes.is_empty()).then(|| text(bytes))
 }
-
-impl Event {
-    /// The event with this head and these texts, or none.
-    pub(crate) fn read(head: &sys::bm_event, texts: &[u8]) -> Option<Event> {
-        EventRef::read(head, texts).map(EventRef::to_owned)
-    }
-}
-
-/// The head at the start of some bytes, and what lies behind it.
-fn read_head(bytes: &[u8]) -> (sys::bm_event, &[u8]) {
-    let (head, behind) = bytes.split_at(size_of::<sys::bm_event>());
-    // SAFETY: there are as many bytes as the struct has, and its fields are numbers, which may be any bytes.
-    (unsafe { head.as_ptr().cast::<sys::bm_event>().read_unaligned() }, behind)
-}
-
-/// The events that there were, in their order. It doesn't borrow the connection, so each may be answered at once.
-#[derive(Clone, Debug)]
-pub struct Events(vec::IntoIter<Event>);
-
-impl Events {
-    pub(crate) fn new(told: Vec<Event>) -> Self {
-        Events(told.into_iter())
-    }
-}
-
-impl Iterator for Events {
-    type Item = Event;
-
-    fn next(&mut self) -> Option<Event> {
-        self.0.next()
-    }
-
-    fn size_hint(&self) -> (usize, Option<usize>) {
-        self.0.size_hint()
-    }
-}
-
-impl DoubleEndedIterator for Events {
-    fn next_back(&mut self) -> Option<Event> {
-        self.0.next_back()
-    }
-}
-
-impl ExactSizeIterator for Events {}

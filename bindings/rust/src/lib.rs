@@ -10,9 +10,9 @@
 //! # A connection
 //!
 //! A connection does no input and no output, starts no thread and reads no clock. You feed it the bytes that you have
-//! read, ask it for events, answer and call, and take the bytes that are to be written, in whatever order you like. The
-//! protocol stays in it: what is a message, what is answered with an error, which reply belongs to which call, what a
-//! cancel reaches, and in what order texts go out. It is proved to do what the repository's page `docs/connection.md`
+//! read, ask it for events, answer and call, and write the bytes that are to be written, in whatever order you like.
+//! The protocol stays in it: what is a message, what is answered with an error, which reply belongs to which call, what
+//! a cancel reaches, and in what order texts go out. It is proved to do what the repository's page `docs/connection.md`
 //! says; `docs/embedding.md` says where the promise ends.
 //!
 //! ```
@@ -66,16 +66,16 @@ mod peer;
 mod refusal;
 mod reply;
 mod report;
+mod sayings;
 mod server;
 mod session;
 mod settings;
 mod streams;
-// (`bm_new` isn't called: `bm_open` does all that it does)
+// (the judge isn't called)
 #[allow(dead_code, non_camel_case_types)]
 mod sys;
 #[cfg(feature = "tokio")]
 pub mod tasks;
-mod together;
 #[cfg(feature = "serde")]
 mod typed;
 
@@ -83,7 +83,7 @@ pub use cancel::{CancelToken, Cancelled};
 pub use client::Client;
 pub use connection::{Connection, Ended, NOBODY};
 pub use end::End;
-pub use event::{Close, Defect, ErrorObject, ErrorRef, Event, EventRef, EventRefs, Events};
+pub use event::{Close, Defect, ErrorObject, ErrorRef, Event, EventRef};
 pub use incoming::{codes, Incoming, Notification, Request, Responder};
 pub use json::{Json, Outgoing};
 pub use life::Life;
@@ -91,8 +91,8 @@ pub use peer::Peer;
 pub use refusal::Refusal;
 pub use reply::{CallError, Reply, Response};
 pub use report::Report;
+pub use sayings::Sayings;
 pub use server::{Messages, Server};
 pub use settings::{Cancels, Framing, Order, Settings};
-pub use together::{Room, Sayings, Stop};
 #[cfg(feature = "serde")]
 pub use typed::{params_of, ReplyAs};

@@ -69,7 +69,7 @@ impl Error for Refusal {}
 mod tests {
     use super::*;
 
-    /// Each code but `BM_OK` and `BM_SMALL`, which never reaches a caller, has a refusal with a text of its own.
+    /// Each code but `BM_OK` has a refusal with a text of its own.
     #[test]
     fn each_code_has_its_refusal() {
         let named = [

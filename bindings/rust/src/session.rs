@@ -230,12 +230,9 @@ impl Session {
     /// waker is told; and ready with `false` where nothing will be any more.
     pub(crate) fn poll_output(&self, waker: &Waker, into: &mut Vec<u8>) -> Poll<bool> {
         self.change(|state| {
-            let pending = state.connection.pending();
-            if pending > 0 {
-                let begun = into.len();
-                into.resize(begun + pending, 0);
-                let count = state.connection.take(&mut into[begun..]);
-                into.truncate(begun + count);
+            let begun = into.len();
+            state.connection.take_into(into);
+            if into.len() > begun {
                 return Poll::Ready(true);
             }
             if state.is_over() {

@@ -10,10 +10,9 @@ pub const BM_NOT_WAITING: i32 = 3;
 pub const BM_OVER: i32 = 4;
 pub const BM_NOT_JSON: i32 = 5;
 pub const BM_NOT_TEXT: i32 = 6;
-pub const BM_SMALL: i32 = 7;
-pub const BM_SETTINGS: i32 = 8;
-pub const BM_EMPTY: i32 = 9;
-pub const BM_FULL: i32 = 10;
+pub const BM_SETTINGS: i32 = 7;
+pub const BM_EMPTY: i32 = 8;
+pub const BM_FULL: i32 = 9;
 
 pub const BM_FRAMES: u32 = 0;
 pub const BM_LINES: u32 = 1;
@@ -52,15 +51,6 @@ pub const BM_OVER_HEAD_TOO_LONG: u32 = 6;
 pub const BM_OVER_TRUNCATED: u32 = 7;
 pub const BM_OVER_READ: u32 = 8;
 pub const BM_OVER_CALLS: u32 = 9;
-
-pub const BM_HAS_TOGETHER: u32 = 1;
-pub const BM_HAS_OPEN: u32 = 2;
-pub const BM_HAS_JUDGE: u32 = 3;
-
-pub const BM_STOP_NONE: u32 = 0;
-pub const BM_STOP_ROOM: u32 = 1;
-pub const BM_STOP_MOST: u32 = 2;
-pub const BM_STOP_NO_MEMORY: u32 = 3;
 
 pub const BM_SAY_ANSWER: u32 = 1;
 pub const BM_SAY_FAIL: u32 = 2;
@@ -121,16 +111,6 @@ pub const BM_RULE_TWICE: u32 = 30;
 
 #[repr(C)]
 #[derive(Clone, Copy, Debug, Default)]
-pub struct bm_settings {
-    pub framing: u32,
-    pub order: u32,
-    pub takes_cancels: u32,
-    pub content: u32,
-    pub calls: u64,
-}
-
-#[repr(C)]
-#[derive(Clone, Copy, Debug, Default)]
 pub struct bm_options {
     pub size: u32,
     pub framing: u32,
@@ -151,7 +131,7 @@ pub struct bm_connection {
 }
 
 #[repr(C)]
-#[derive(Clone, Copy, Debug, Default)]
+#[derive(Clone, Copy, Debug)]
 pub struct bm_event {
     pub kind: u32,
     pub flags: u32,
@@ -161,6 +141,9 @@ pub struct bm_event {
     pub name_len: usize,
     pub text_len: usize,
     pub id_len: usize,
+    pub name: *const u8,
+    pub text: *const u8,
+    pub id: *const u8,
 }
 
 #[repr(C)]
@@ -179,16 +162,6 @@ pub struct bm_report {
 
 #[repr(C)]
 #[derive(Clone, Copy, Debug, Default)]
-pub struct bm_told {
-    pub count: u32,
-    pub stopped: u32,
-    pub used: usize,
-    pub needed: usize,
-    pub pending: usize,
-}
-
-#[repr(C)]
-#[derive(Clone, Copy, Debug, Default)]
 pub struct bm_saying {
     pub kind: u32,
     pub said: i32,
@@ -198,14 +171,6 @@ pub struct bm_saying {
     pub name_len: usize,
     pub text_len: usize,
     pub calls: usize,
-}
-
-#[repr(C)]
-#[derive(Clone, Copy, Debug, Default)]
-pub struct bm_said {
-    pub refused: usize,
-    pub taken: usize,
-    pub pending: usize,
 }
 
 #[repr(C)]
@@ -239,40 +204,19 @@ pub struct bm_finding {
 
 extern "C" {
     pub fn bm_interface() -> u32;
-    pub fn bm_has(addition: u32) -> bool;
-    pub fn bm_new(settings: *const bm_settings, at: *mut *mut c_void) -> i32;
     pub fn bm_open(options: *const bm_options, at: *mut *mut c_void) -> i32;
     pub fn bm_free(connection: bm_connection);
     pub fn bm_feed(connection: *mut bm_connection, bytes: *const u8, length: usize) -> i32;
     pub fn bm_end(connection: *mut bm_connection, how: u32) -> i32;
     pub fn bm_fault_at(connection: *mut bm_connection, offset: *mut u64) -> bool;
-    pub fn bm_next(connection: *mut bm_connection, event: *mut bm_event, room: *mut u8, length: usize) -> i32;
-    pub fn bm_next_all(
-        connection: *mut bm_connection,
-        room: *mut u8,
-        length: usize,
-        used: *mut usize,
-        count: *mut u32,
-    ) -> i32;
-    pub fn bm_tell(connection: *mut bm_connection, room: *mut u8, length: usize, most: u32, told: *mut bm_told);
-    pub fn bm_fed(
-        connection: *mut bm_connection,
-        bytes: *const u8,
-        length: usize,
-        room: *mut u8,
-        room_length: usize,
-        most: u32,
-        told: *mut bm_told,
-    ) -> i32;
+    pub fn bm_next(connection: *mut bm_connection, event: *mut bm_event) -> i32;
     pub fn bm_say_all(
         connection: *mut bm_connection,
         sayings: *mut bm_saying,
         count: usize,
         bytes: *const u8,
         length: usize,
-        room: *mut u8,
-        room_length: usize,
-        said: *mut bm_said,
+        refused: *mut usize,
     ) -> i32;
     pub fn bm_call(
         connection: *mut bm_connection,
@@ -312,12 +256,12 @@ extern "C" {
         data_length: usize,
     ) -> i32;
     pub fn bm_cancel(connection: *mut bm_connection, number: u64) -> i32;
+    pub fn bm_output(connection: *mut bm_connection, bytes: *mut *const u8) -> usize;
+    pub fn bm_written(connection: *mut bm_connection, length: usize) -> i32;
     pub fn bm_pending(connection: *mut bm_connection) -> usize;
-    pub fn bm_take(connection: *mut bm_connection, room: *mut u8, length: usize) -> usize;
-    pub fn bm_taken(connection: *mut bm_connection, room: *mut u8, length: usize, count: *mut usize) -> i32;
     pub fn bm_is_done(connection: *mut bm_connection) -> bool;
     pub fn bm_counts(connection: *mut bm_connection, report: *mut bm_report);
-    pub fn bm_judge_new(options: *const bm_judge_options, at: *mut *mut c_void) -> i32;
+    pub fn bm_judge_open(options: *const bm_judge_options, at: *mut *mut c_void) -> i32;
     pub fn bm_judge_free(judge: bm_judge);
     pub fn bm_judge_saw(judge: *mut bm_judge, side: u32, bytes: *const u8, length: usize) -> i32;
     pub fn bm_judge_ended(judge: *mut bm_judge, side: u32, how: u32) -> i32;

@@ -1,7 +1,10 @@
 //! Each call on its way where it succeeds. What is expected is what docs/connection.md says.
 mod support;
 
-use bullmyrtle::{Close, Connection, Ended, ErrorObject, Event, Framing, Order, Outgoing, Report, Settings, NOBODY};
+use bullmyrtle::{
+    Close, Connection, Ended, ErrorObject, ErrorRef, Event, EventRef, Framing, Order, Outgoing, Report, Settings,
+    NOBODY,
+};
 use support::{asked, events, feed, lines, written};
 
 #[test]
@@ -171,28 +174,23 @@ fn answers_wait_for_earlier_ones_where_the_order_says_so() {
 }
 
 #[test]
-fn an_event_that_is_larger_than_the_room_is_told() {
+fn a_large_event_is_told() {
     let long = "x".repeat(3_000_000);
     let content = format!(r#"{{"jsonrpc":"2.0","method":"m","params":["{long}"],"id":1}}"#);
-    for one_by_one in [false, true] {
-        let mut connection = lines();
-        feed(&mut connection, &content);
-        feed(&mut connection, r#"{"jsonrpc":"2.0","method":"n"}"#);
-        let told = if one_by_one {
-            std::iter::from_fn(|| connection.next_event().unwrap()).collect()
-        } else {
-            events(&mut connection)
-        };
-        assert_eq!(told.len(), 2);
-        let has_all = |it: &String| it.len() == long.len() + 4;
-        assert!(matches!(&told[0], Event::Request { params: Some(it), .. } if has_all(it)));
-        assert_eq!(told[1], Event::Notification { number: 2, method: "n".into(), params: None });
-    }
+    let mut connection = lines();
+    feed(&mut connection, &content);
+    feed(&mut connection, r#"{"jsonrpc":"2.0","method":"n"}"#);
+    let told = events(&mut connection);
+    assert_eq!(told.len(), 2);
+    let params = format!("[\"{long}\"]");
+    assert!(matches!(&told[0], Event::Request { params: Some(it), .. } if *it == params));
+    assert_eq!(told[1], Event::Notification { number: 2, method: "n".into(), params: None });
 }
 
 #[test]
-fn events_at_once_are_those_one_by_one() {
+fn events_at_once_and_borrowed_ones_are_those_one_by_one() {
     let input = [
+        "[5,{\"\u{e9}",
         r#"{"jsonrpc":"2.0","method":"m","params":["a",{"b":1.50}],"id":"i\u0001\"d"}"#,
         "5",
         "broken",
@@ -200,21 +198,30 @@ fn events_at_once_are_those_one_by_one() {
         r#"{"jsonrpc":"2.0","id":1,"error":{"code":-9223372036854775808,"message":"gone","data":[null]}}"#,
         r#"{"jsonrpc":"2.0","method":"\u00fc \ud83d\ude00","id":-7}"#,
     ];
-    let (mut one, mut many) = (lines(), lines());
-    for it in [&mut one, &mut many] {
+    let broken = || Connection::new(Settings::new().framing(Framing::Lines).cancels(true).broken(true)).unwrap();
+    let (mut one, mut many, mut lending) = (broken(), broken(), broken());
+    for it in [&mut one, &mut many, &mut lending] {
         it.call(NOBODY, "a", None).unwrap();
         it.call(NOBODY, "b", None).unwrap();
         input.iter().for_each(|content| feed(it, content));
         it.end(Ended::Closed).unwrap();
     }
     let told: Vec<Event> = std::iter::from_fn(|| one.next_event().unwrap()).collect();
-    let at_once = many.events().unwrap();
-    assert_eq!(at_once.len(), told.len());
-    assert_eq!(at_once.collect::<Vec<_>>(), told);
-    // (a request, one in a batch and its cancel, an error, a request, a call without a reply, the end)
-    assert_eq!(told.len(), 7);
-    assert!(matches!(&told[4], Event::Request { method, .. } if method == "ü 😀"));
-    let answers = ["Invalid Request", "Parse error"];
+    assert_eq!(many.events().unwrap(), told);
+    assert_eq!(many.take_bytes(), one.output());
+    // (three broken, a request, one in a batch and its cancel, an error, a request, a call without a reply, the end)
+    assert_eq!(told.len(), 10);
+    assert!(matches!(&told[7], Event::Request { method, .. } if method == "ü 😀"));
+    for (at, event) in told.iter().enumerate() {
+        let borrowed = lending.next_event_ref().unwrap().unwrap();
+        if at == 6 {
+            let error = ErrorRef { code: i64::MIN, message: "gone", data: Some("[null]") };
+            assert_eq!(borrowed, EventRef::Replied { key: 1, reply: Err(error) });
+        }
+        assert_eq!(borrowed.to_owned(), *event);
+    }
+    assert_eq!(lending.next_event_ref(), Ok(None));
+    let answers = ["Parse error", "Invalid Request", "Parse error"];
     for (line, message) in written(&mut one).iter().skip(2).zip(answers) {
         assert!(line.contains(message), "{line}");
     }

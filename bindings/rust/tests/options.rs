@@ -2,10 +2,7 @@
 //! docs/connection.md says.
 mod support;
 
-use bullmyrtle::{
-    Cancels, Close, Connection, Defect, Ended, Event, EventRef, Framing, Refusal, Room, Settings, NOBODY,
-};
-use std::slice;
+use bullmyrtle::{Cancels, Close, Connection, Defect, Ended, Event, Framing, Refusal, Settings, NOBODY};
 use support::{events, feed, written};
 
 const MCP_CANCEL: &str =
@@ -98,21 +95,6 @@ fn broken_input_is_told_where_it_is_asked_for() {
     assert_eq!(events(&mut connection), wanted);
     let report = connection.report();
     assert_eq!((report.unreadable, report.invalid), (2, 2));
-    // one after the other, and without a copy
-    for is_borrowed in [false, true] {
-        let mut connection = Connection::new(settings.broken(true)).unwrap();
-        connection.feed(contents).unwrap();
-        for event in &wanted {
-            if is_borrowed {
-                let mut room = Room::new();
-                connection.tell(1, &mut room);
-                let told: Vec<_> = room.events().map(EventRef::to_owned).collect();
-                assert_eq!(told, slice::from_ref(event));
-            } else {
-                assert_eq!(connection.next_event().unwrap().as_ref(), Some(event));
-            }
-        }
-    }
     // the same without it: the same answers, and no such event
     let mut other = Connection::new(settings).unwrap();
     other.feed(contents).unwrap();

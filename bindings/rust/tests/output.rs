@@ -1,44 +1,76 @@
-//! How what is to be written is taken and written.
+//! How what is to be written is lent, taken and written.
 mod support;
 
-use bullmyrtle::{Connection, Framing, Settings};
+use bullmyrtle::{Connection, Framing, Refusal, Settings};
 use std::io::{self, ErrorKind, Write};
 use support::lines;
 
 #[test]
-fn a_room_takes_what_fits() {
-    let mut connection = lines();
-    connection.notify("a", None).unwrap();
-    let whole = b"{\"jsonrpc\":\"2.0\",\"method\":\"a\"}\n";
-    assert_eq!(connection.pending(), whole.len());
-    let mut came = Vec::new();
-    for size in 0.. {
-        let mut room = vec![0; size];
-        let count = connection.take(&mut room);
-        came.extend_from_slice(&room[..count]);
-        assert_eq!(connection.pending(), whole.len() - came.len());
-        if connection.pending() == 0 {
+fn what_was_written_is_not_lent_again() {
+    for size in 1.. {
+        let mut connection = lines();
+        connection.notify("a", None).unwrap();
+        connection.notify("b", None).unwrap();
+        let whole = b"{\"jsonrpc\":\"2.0\",\"method\":\"a\"}\n{\"jsonrpc\":\"2.0\",\"method\":\"b\"}\n";
+        let mut came = Vec::new();
+        while !connection.output().is_empty() {
+            let count = connection.output().len().min(size);
+            came.extend_from_slice(&connection.output()[..count]);
+            assert_eq!(connection.written(count), Ok(()));
+            assert_eq!(connection.pending(), whole.len() - came.len());
+        }
+        assert_eq!(came, whole);
+        assert_eq!(connection.pending(), 0);
+        assert!(connection.take_bytes().is_empty());
+        if size > whole.len() {
             break;
         }
-        assert_eq!(count, size);
     }
-    assert_eq!(came, whole);
-    assert!(connection.take_bytes().is_empty());
+}
+
+#[test]
+fn what_is_lent_stays_the_same_until_it_is_written() {
+    let mut connection = lines();
+    assert_eq!(connection.output(), b"");
+    connection.notify("a", None).unwrap();
+    let lent = connection.output().to_vec();
+    assert_eq!(lent, b"{\"jsonrpc\":\"2.0\",\"method\":\"a\"}\n");
+    connection.notify("b", None).unwrap();
+    assert_eq!(connection.output(), lent);
+    assert_eq!(connection.written(lent.len() + 1), Err(Refusal::Settings));
+    assert_eq!(connection.written(0), Ok(()));
+    assert!(connection.output().starts_with(&lent));
+    assert_eq!(connection.written(lent.len()), Ok(()));
+    assert_eq!(connection.output(), b"{\"jsonrpc\":\"2.0\",\"method\":\"b\"}\n");
 }
 
 #[test]
 fn contents_are_taken_whole() {
     let mut connection = Connection::new(Settings::new().framing(Framing::Contents)).unwrap();
-    connection.notify("a", None).unwrap();
-    connection.notify("longer", None).unwrap();
+    for method in ["a", "longer", "last"] {
+        connection.notify(method, None).unwrap();
+    }
     let first = br#"{"jsonrpc":"2.0","method":"a"}"#;
     assert_eq!(connection.pending(), first.len());
-    assert_eq!(connection.take(&mut vec![0; first.len() - 1]), 0);
-    let mut room = [0; 1_000];
-    let count = connection.take(&mut room);
-    assert_eq!(&room[..count], first);
+    assert_eq!(connection.output(), first);
+    assert_eq!(connection.written(first.len() - 1), Err(Refusal::Settings));
+    assert_eq!(connection.output(), first);
+    assert_eq!(connection.written(first.len()), Ok(()));
     assert_eq!(connection.take_bytes(), br#"{"jsonrpc":"2.0","method":"longer"}"#);
+    let mut wide = Vec::new();
+    assert_eq!(connection.write_to(&mut wide).unwrap(), wide.len());
+    assert_eq!(wide, br#"{"jsonrpc":"2.0","method":"last"}"#);
     assert_eq!(connection.take_bytes(), b"");
+}
+
+#[test]
+fn a_writer_of_contents_takes_each_as_a_whole() {
+    let mut connection = Connection::new(Settings::new().framing(Framing::Contents)).unwrap();
+    connection.notify("a", None).unwrap();
+    let text = br#"{"jsonrpc":"2.0","method":"a"}"#;
+    let mut narrow = [0; 7];
+    assert_eq!(connection.write_to(narrow.as_mut_slice()).unwrap_err().kind(), ErrorKind::WriteZero);
+    assert_eq!(connection.take_bytes(), text);
 }
 
 /// A writer that takes at most so many bytes at once, and fails each second time.
@@ -71,7 +103,7 @@ impl Write for Narrow {
 
 #[test]
 fn a_writer_that_fails_loses_nothing() {
-    for framing in [Framing::Frames, Framing::Lines, Framing::Contents] {
+    for framing in [Framing::Frames, Framing::Lines] {
         let settings = Settings::new().framing(framing);
         let (mut narrow, mut wide) = (Connection::new(settings).unwrap(), Connection::new(settings).unwrap());
         let mut wanted = Vec::new();
@@ -88,9 +120,7 @@ fn a_writer_that_fails_loses_nothing() {
                 Err(why) => assert_eq!(why.kind(), ErrorKind::WouldBlock),
             }
             failures += 1;
-            if framing != Framing::Contents {
-                assert_eq!(narrow.pending() + writer.came.len(), wanted.len());
-            }
+            assert_eq!(narrow.pending() + writer.came.len(), wanted.len());
         }
         assert!(failures > 50 && writer.flushed == 1);
         assert_eq!(writer.came, wanted);

@@ -13,7 +13,7 @@ fn refused<T: std::fmt::Debug>(
     let before = (connection.report(), connection.pending(), connection.is_done());
     assert_eq!(action(connection).expect_err("it is refused"), why);
     assert_eq!((connection.report(), connection.pending(), connection.is_done()), before);
-    assert_eq!(connection.events().expect("memory").count(), 0);
+    assert_eq!(connection.events().expect("memory"), []);
 }
 
 #[test]
@@ -59,8 +59,7 @@ fn an_input_that_is_over() {
 }
 
 fn refused_after_end(connection: &mut Connection) {
-    let told = connection.events().unwrap().count();
-    assert_eq!(told, 1, "the end");
+    assert_eq!(connection.events().unwrap().len(), 1, "the end");
     refused(connection, Refusal::Over, |it| it.feed(b"{}\n"));
     refused(connection, Refusal::Over, |it| it.end(Ended::Closed));
     refused(connection, Refusal::Over, |it| it.end(Ended::ReadFailed));

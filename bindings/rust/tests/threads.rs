@@ -109,7 +109,7 @@ fn two_connections_back_to_back() {
         assert_eq!(replies, wanted);
         for it in [&mut client, &mut server] {
             it.end(Ended::Closed).unwrap();
-            assert_eq!(it.events().unwrap().collect::<Vec<_>>(), [Event::Over(Close::Clean)]);
+            assert_eq!(it.events().unwrap(), [Event::Over(Close::Clean)]);
             assert!(it.is_done());
         }
     }

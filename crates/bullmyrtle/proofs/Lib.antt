@@ -1,1 +1,2 @@
+pub mod LentMemory
 pub mod LooseSteps

@@ -11,7 +11,7 @@ IsFresh asked h = (it : Asked) × (asked ≡ Some it) × (h.judge ≡ new_judge 
 
 -- BM_SETTINGS where there is no such judge, and else BM_OK or BM_NO_MEMORY
 abbrev pub IsMade : Option Asked → ℤ → Type 0
-IsMade asked code = ((it : Asked) × (asked ≡ Some it) × ((code ≡ pos 0) ⊎ (code ≡ pos 1))) ⊎ ((asked ≡ None) × (code ≡ pos 8))
+IsMade asked code = ((it : Asked) × (asked ≡ Some it) × ((code ≡ pos 0) ⊎ (code ≡ pos 1))) ⊎ ((asked ≡ None) × (code ≡ pos 7))
 
 -- what there is after an answer: at BM_OK a fresh value
 abbrev pub IsGivenBy : Option Asked → ℤ → Option Held → Type 0

@@ -7,6 +7,7 @@ pub mod JudgeMade
 pub mod JudgePlaces
 pub mod JudgeValues
 pub mod Lending
+pub mod Loans
 pub mod Made
 pub mod Places
 pub mod Values

@@ -1,5 +1,5 @@
 -- What it answers to make a new one.
-use Rattle.std.specs.Prelude.{◌≡◌, ◌⊎◌, ℕ, ◌==◌, ◌&&◌, nat_le, ℤ, pos, negsuc, zero, suc, [], Bool, true, false, Option, Some, None, option_and_then, if◌then◌else◌, ⊤}
+use Rattle.std.specs.Prelude.{◌≡◌, ◌⊎◌, ℕ, ◌==◌, nat_le, ℤ, pos, negsuc, zero, suc, Bool, true, false, Option, Some, None, option_and_then, if◌then◌else◌, ⊤}
 use Rattle.connection_messages.specs.declared.cancels.Cancels.{Cancels}
 use Rattle.connection_messages.specs.declared.cancels.Cancels.TheVariants.{Lsp, Mcp}
 use Rattle.connection_history.specs.declared.order.Order.{Order}
@@ -8,10 +8,9 @@ use Rattle.content_streams.specs.declared.framing.Framing.{Framing}
 use Rattle.content_streams.specs.declared.framing.Framing.TheVariants.{Frames, Lines, Contents}
 use Rattle.lsp_frames.specs.declared.limits.TheConstants.{LARGEST_CONTENT, LONGEST_CONTENT}
 use Rattle.connection.specs.Settings.{Chosen}
-use Rattle.connection.specs.Connections.{StandsAfter}
 use Rattle.bullmyrtle.specs.declared.settings.Options.{Options}
-use Rattle.bullmyrtle.specs.declared.settings.Settings.{Settings}
-use Rattle.host_calls.specs.declared.outlet.Outlet.{Outlet}
+use Rattle.host_calls.specs.declared.hosted.HostedConnection.{HostedConnection}
+use Rattle.host_calls.specs.Hosting as fresh
 use Rattle.bullmyrtle.specs.Held.{Held}
 
 abbrev pub framing_of : ℕ → Option Framing
@@ -23,25 +22,6 @@ order_of n = if n == 0 then Some AsAnswered else (if n == 1 then Some AsCame els
 -- 0 stands for the usual number
 abbrev pub or_usual : ℕ → ℕ → ℕ
 or_usual usual n = if n == 0 then usual else n
-
--- ---- what bm_new makes one with
-
-abbrev of_both : Settings → Framing → Order → Option Chosen
-of_both s framing order =
-    if nat_le s.takes_cancels 1 && nat_le s.content LARGEST_CONTENT then Some (record {
-      framing = framing;
-      order = order;
-      cancels = if s.takes_cancels == 1 then Some Lsp else None;
-      most_entries = None;
-      null_params = false;
-      tells_broken = false;
-      content = or_usual LARGEST_CONTENT s.content;
-      calls = or_usual 18446744073709551615 s.calls;
-    }) else None
-
--- the connection's settings, where there are such
-abbrev pub chosen : Settings → Option Chosen
-chosen s = option_and_then (λ framing. option_and_then (of_both s framing) (order_of s.order)) (framing_of s.framing)
 
 -- ---- what bm_open makes one with
 
@@ -76,22 +56,15 @@ of_framing o framing =
 abbrev pub chosen_by : Options → Option Chosen
 chosen_by o = if o.size == 40 then option_and_then (of_framing o) (framing_of o.framing) else None
 
--- the options that say what these settings say
-abbrev pub options_of : Settings → Options
-options_of s =
-    record { size = 40; framing = s.framing; order = s.order; cancels = s.takes_cancels; broken = 0; content = s.content; calls = s.calls; entries = 4294967295; null_params = 0 }
-
 -- ---- what is answered
 
--- nothing was fed, the input hasn't ended, and nothing has happened yet
-abbrev pub IsFresh : Option Chosen → Outlet → Type 0
-IsFresh asked o =
-    (asked ≡ Some o.connection.settings) × (o.next ≡ None) × (o.connection.stream.pieces ≡ []) × (o.connection.stream.ended ≡ None)
-    × StandsAfter o.connection [] []
+-- it has these settings, nothing has happened yet, and nothing is lent
+abbrev pub IsFresh : Option Chosen → HostedConnection → Type 0
+IsFresh asked h = (c : Chosen) × (asked ≡ Some c) × fresh.IsFresh c h
 
 -- BM_SETTINGS where there are no such settings, and else BM_OK or BM_NO_MEMORY
 abbrev pub IsMade : Option Chosen → ℤ → Type 0
-IsMade asked code = ((c : Chosen) × (asked ≡ Some c) × ((code ≡ pos 0) ⊎ (code ≡ pos 1))) ⊎ ((asked ≡ None) × (code ≡ pos 8))
+IsMade asked code = ((c : Chosen) × (asked ≡ Some c) × ((code ≡ pos 0) ⊎ (code ≡ pos 1))) ⊎ ((asked ≡ None) × (code ≡ pos 7))
 
 -- what there is after an answer: at BM_OK a fresh value
 abbrev pub IsGivenBy : Option Chosen → ℤ → Option Held → Type 0

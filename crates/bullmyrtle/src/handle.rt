@@ -6,7 +6,7 @@ ghost use Rattle.bullmyrtle.specs.Heap.{frees};
 ghost use Rattle.bullmyrtle.specs.Held.{held_row};
 
 use crate::loose::Loose;
-use host_calls::Outlet;
+use host_calls::HostedConnection;
 use std::alloc::Global;
 use std::marker::Model;
 
@@ -28,19 +28,19 @@ unsafe impl Send for Handle {}
 impl Handle {
     ghost use Rattle.bullmyrtle.specs.Lending.{LendsValue};
 
-    pub fn of(value: Box<Outlet>) -> Handle
+    pub fn of(value: Box<HostedConnection>) -> Handle
         ensures { result.value ≡ value.value }
     {
         Handle::of_loose(Loose::of(value))
     }
 
-    pub fn into_box(self) -> Box<Outlet>
+    pub fn into_box(self) -> Box<HostedConnection>
         ensures { result.value ≡ self.value }
     {
         self.into_loose().into_box()
     }
 
-    fn of_loose(loose: Loose<Outlet, Global>) -> Handle
+    fn of_loose(loose: Loose<HostedConnection, Global>) -> Handle
         ensures { result.value ≡ loose.value }
     {
         let Loose { at, alloc } = loose;
@@ -50,21 +50,21 @@ impl Handle {
         }
     }
 
-    fn into_loose(self) -> Loose<Outlet, Global>
+    fn into_loose(self) -> Loose<HostedConnection, Global>
         ensures { result.value ≡ self.value }
     {
         let Handle { at, alloc } = self;
         Loose {
-            at: at.cast::<Outlet>(),
+            at: at.cast::<HostedConnection>(),
             alloc,
         }
     }
 
     /// What it points to.
-    pub fn as_mut(&mut self) -> &mut Outlet
+    pub fn as_mut(&mut self) -> &mut HostedConnection
         ensures* writes_back { sem 𝓛 (LendsValue self.entry result) }
         ensures value { result.now ≡ self.old.value }
     {
-        unsafe { &mut *self.at.cast::<Outlet>() }
+        unsafe { &mut *self.at.cast::<HostedConnection>() }
     }
 }

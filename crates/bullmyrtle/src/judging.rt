@@ -20,7 +20,7 @@ use std::alloc::Global;
 
 /// Makes a new judge by options. Its handle lies at `at` then, or where the answer isn't `BM_OK`, room for one as before.
 #[unsafe(no_mangle)]
-pub unsafe extern "C" fn bm_judge_new(
+pub unsafe extern "C" fn bm_judge_open(
     alloc: Global,
     options: &JudgeOptions,
     at: *mut JudgeHandle,
@@ -42,7 +42,7 @@ fn made(alloc: Global, options: &JudgeOptions, place: JudgePlace) -> (i32, Judge
     ensures held { IsGivenBy (asked_by options.now) result.0 result.1.held }
 {
     let Some(asked) = options.asked() else {
-        return (8, place);
+        return (7, place);
     };
     match Box::new(alloc, HostedJudge::new(alloc, asked)) {
         Ok(judge) => (0, place.put(JudgeHandle::of(judge))),

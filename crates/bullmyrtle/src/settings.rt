@@ -1,21 +1,9 @@
 //! What a new one is made with.
 
-ghost use Rattle.std.specs.Prelude.{◌≡◌, ◌&&◌, nat_le, true, if◌then◌else◌, ◌==◌};
-ghost use Rattle.lsp_frames.specs.declared.limits.TheConstants.{LARGEST_CONTENT};
-ghost use Rattle.bullmyrtle.specs.Made.{framing_of, order_of, cancels_of, flag_of, entries_of, or_usual, chosen, chosen_by, options_of};
+ghost use Rattle.std.specs.Prelude.{◌≡◌};
+ghost use Rattle.bullmyrtle.specs.Made.{framing_of, order_of, cancels_of, flag_of, entries_of, chosen_by};
 
 use connection::{Cancels, Framing, Order, USUAL_CONTENT};
-
-/// What `bm_new` makes one with, as C has it.
-#[repr(C)]
-#[derive(Clone, Copy)]
-pub struct Settings {
-    pub framing: u32,
-    pub order: u32,
-    pub takes_cancels: u32,
-    pub content: u32,
-    pub calls: u64,
-}
 
 /// What `bm_open` makes one with, as C has it.
 #[repr(C)]
@@ -39,37 +27,6 @@ const OPTIONS_SIZE: u32 = 40;
 /// How many entries a batch may have where nothing is said. It is meant to be more than any program says at once, and few
 /// enough that a host has room for them: a content of 16 MiB may have eight million.
 const USUAL_ENTRIES: u64 = 100_000;
-
-impl Settings {
-    /// The connection's own settings, where there are such.
-    pub(crate) fn chosen(&self) -> Option<connection::Settings>
-        ensures { result ≡ chosen self.now }
-    {
-        if self.takes_cancels > 1 || self.content > USUAL_CONTENT {
-            return None;
-        }
-        self.options().chosen()
-    }
-
-    /// The options that say the same.
-    fn options(&self) -> Options
-        ensures options { result ≡ options_of self.now }
-        ensures same { (nat_le self.now.takes_cancels 1 && nat_le self.now.content LARGEST_CONTENT) ≡ true →
-            chosen_by result ≡ chosen self.now }
-    {
-        Options {
-            size: OPTIONS_SIZE,
-            framing: self.framing,
-            order: self.order,
-            cancels: self.takes_cancels,
-            broken: 0,
-            content: self.content,
-            calls: self.calls,
-            entries: u32::MAX,
-            null_params: 0,
-        }
-    }
-}
 
 impl Options {
     /// The connection's own settings, where there are such. A limit of 0 is the usual one.

@@ -1,10 +1,11 @@
 //! What is to be written comes out.
 
-ghost use Rattle.std.specs.Prelude.{◌≡◌, ◌++◌, ◌↔◌, IsTrue, List, length, drop};
+ghost use Rattle.std.specs.Prelude.{◌≡◌, ◌↔◌, [], IsTrue, List, length};
 ghost use Rattle.connection_history.specs.declared.event.Event.{Event};
 ghost use Rattle.connection_history.specs.History.{History};
 
 use crate::connection::Connection;
+use content_streams::Framing;
 
 impl Connection {
     ghost use Rattle.outbox.specs.Output.{given_of, next_of, after_take};
@@ -17,17 +18,23 @@ impl Connection {
         self.desk.pending()
     }
 
-    /// Takes the next bytes, as many as there is room for; in Contents the next text, or nothing where it doesn't fit. They
-    /// are put to the front of the room, and counted. Takes no memory.
-    pub fn take(&mut self, room: &mut [u8]) -> usize
-        ensures count { result ≡ length (given_of (output self.old) (length room.old)) }
-        ensures room { room.new ≡
-            given_of (output self.old) (length room.old) ++ drop result room.old }
-        ensures state { self.new ≡ with_output self.old (after_take (length room.old) (output self.old)) }
+    /// Moves what is to be written next to this block, in place of what that had: the first bytes, none only where there
+    /// are none; in Contents the next text. No byte is copied. Takes no memory.
+    pub fn take(&mut self, block: &mut Vec<u8>)
+        ensures block { block.new.items ≡ given_of (output self.old) (length block.new.items) }
+        ensures state { self.new ≡ with_output self.old (after_take (length block.new.items) (output self.old)) }
+        ensures none { block.new.items ≡ [] → next_of (output self.old) ≡ [] }
         ensures stands { (history : History) (told : List Event) →
             StandsAfter self.old history told → StandsAfter self.new history told }
     {
-        self.desk.take(room)
+        self.desk.take(block)
+    }
+
+    /// How messages are framed.
+    pub fn framing(&self) -> Framing
+        ensures { result ≡ self.now.settings.framing }
+    {
+        self.settings.framing()
     }
 
     /// Whether the input is over, all is told and taken, and no call is open.

@@ -67,7 +67,7 @@ impl Desk {
     ghost use Rattle.connection_desk.specs.Desks.{after_saying, capped_tally, IsDone};
     ghost use Rattle.open_calls.specs.Numbered.{at};
     ghost use Rattle.outbox.specs.Output.{after_take, given_of, next_of};
-    ghost use Rattle.std.specs.Prelude.{drop, IsTrue, ◌↔◌};
+    ghost use Rattle.std.specs.Prelude.{IsTrue, ◌↔◌};
 
     /// A desk where nothing has happened. Calls can be withdrawn by these cancels, where there are any. Takes no memory.
     pub fn new(alloc: Global, framing: Framing, order: Order, cancels: Option<Cancels>) -> Desk
@@ -164,16 +164,16 @@ impl Desk {
         self.outbox.pending()
     }
 
-    /// Takes the next bytes, as many as there is room for; in Contents the next text, or nothing where it doesn't fit.
-    pub fn take(&mut self, room: &mut [u8]) -> usize
-        ensures count { result ≡ length (given_of self.old.out (length room.old)) }
-        ensures room { room.new ≡
-            given_of self.old.out (length room.old) ++ drop result room.old }
+    /// Moves what is to be written next to this block, in place of what that had: the first bytes, none only where there
+    /// are none; in Contents the next text. Takes no memory.
+    pub fn take(&mut self, block: &mut Vec<u8>)
+        ensures block { block.new.items ≡ given_of self.old.out (length block.new.items) }
         ensures state { self.new ≡ record self.old {
-          out = after_take (length room.old) self.old.out;
+          out = after_take (length block.new.items) self.old.out;
         } }
+        ensures none { block.new.items ≡ [] → next_of self.old.out ≡ [] }
     {
-        self.outbox.take(room)
+        self.outbox.take(block)
     }
 
     /// Whether the input is over, all is told and taken, and no call is open.

@@ -33,11 +33,12 @@ fn serve<I: Read, W: Write>(
     output: &mut W,
 ) -> io::Result<()> {
     let mut room = [0u8; 4096];
+    let mut block = Vec::new(alloc);
     for _ in 0..u64::MAX {
         let count = input.read(&mut room)?;
         feed(connection, &room[..count]).or(Err(ErrorKind::OutOfMemory))?;
         hear(alloc, connection).or(Err(ErrorKind::OutOfMemory))?;
-        put(connection, &mut room, output)?;
+        put(connection, &mut block, output)?;
         if count == 0 {
             break;
         }
@@ -88,18 +89,22 @@ fn answer_to(alloc: Global, call: &Call) -> Result<Answer, AllocError> {
     }
 }
 
-/// Writes what is to be written.
-fn put<W: Write>(connection: &mut Connection, room: &mut [u8], output: &mut W) -> io::Result<()> {
+/// Writes what is to be written, block by block.
+fn put<W: Write>(
+    connection: &mut Connection,
+    block: &mut Vec<u8>,
+    output: &mut W,
+) -> io::Result<()> {
     for _ in 0..u64::MAX {
-        let count = take(connection, room);
-        if count == 0 {
+        take(connection, block);
+        if block.is_empty() {
             break;
         }
-        output.write_all(&room[..count.min(room.len())])?;
+        output.write_all(block.as_slice())?;
     }
     output.flush()
 }
 
-fn take(connection: &mut Connection, room: &mut [u8]) -> usize {
-    connection.take(room)
+fn take(connection: &mut Connection, block: &mut Vec<u8>) {
+    connection.take(block);
 }

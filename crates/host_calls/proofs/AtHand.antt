@@ -1,18 +1,13 @@
 -- What a connection told is at hand.
-use Rattle.std.proofs.Common.{◌≡◌, ℕ, List, [], ◌∷◌, ◌++◌, Option, Some, None, Result, Ok, Err, IfOk, OnErr, IfSome, refl, sym, ap, subst, is_some, false}
+use Rattle.std.proofs.Common.{◌≡◌, List, [], ◌∷◌, ◌++◌, Option, Some, None, Result, Ok, Err, IfOk, OnErr, IfSome, refl, sym, subst, is_some, false}
 use Rattle.std.proofs.lemmas.Bool.{true≢false}
 use Rattle.std.specs.declared.alloc.AllocError.{AllocError}
 use Rattle.connection_history.specs.declared.event.Event.{Event}
 use Rattle.connection_history.specs.History.{History}
 use Rattle.connection.specs.Connections.{Connection, StandsAfter, GoesOn, IsStill, HasGoneOn}
 use Rattle.host_calls.specs.declared.outlet.Outlet.{Outlet}
-use Rattle.host_calls.specs.declared.shown.Shown.{Shown}
-use Rattle.host_calls.specs.declared.shown.Shown.TheVariants.{To}
-use Rattle.host_calls.specs.Shown.{IsShown}
-use Rattle.host_calls.specs.declared.asking.Packed.TheVariants.{Told}
 use Rattle.host_calls.specs.Retaining.{RetainsPieces}
 use Rattle.host_calls.specs.Outlets.{Tells, At, Fetched, Failed}
-use Rattle.host_calls.specs.Inner.{Packs}
 
 abbrev pub Asked : Type 0
 Asked = Result (Option Event) AllocError
@@ -48,10 +43,3 @@ pub failed : (a : Outlet) (d : Connection) (left : Option Event) (r : Asked) →
     → OnErr r (Failed a (record a { connection = d; next = left }))
 failed a d left (Ok next) h e kept f = tt
 failed a d left (Err it) h e kept f = (h, e, kept, f)
-
--- the event that was fetched is handed over
-pub packs-told : (a b : Outlet) (next : Option Event) (e : Event) (r s : List ℕ) (used end : ℕ) (it : Shown)
-    → Fetched a (record b { next = next }) → b.next ≡ None → next ≡ Some e → IsShown e r s used it → it ≡ To end → Packs a b r s used (Told end)
-packs-told a b next e r s used end it fetched out is shown to =
-    let P : Shown → Type 0 = λ x. IsShown e r s used x in let here = subst P to shown in
-    (e, (record b { next = next }, fetched, is, ap (λ n. record b { next = n }) out), here.1, here.0)

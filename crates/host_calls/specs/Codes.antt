@@ -3,8 +3,6 @@ use Rattle.std.specs.Prelude.{ℤ, pos, Result, Ok, Err}
 use Rattle.connection_history.specs.declared.refused.Refused.TheVariants.{Memory, NotOpen, NotWaiting, Over, Empty, Full}
 use Rattle.host_calls.specs.declared.code.Why.{Why}
 use Rattle.host_calls.specs.declared.code.Why.TheVariants.{Refused, NotText, NotJson, Settings}
-use Rattle.host_calls.specs.declared.asking.Got.{Got}
-use Rattle.host_calls.specs.declared.asking.Got.TheVariants as got
 
 -- It was done, or why it wasn't.
 abbrev pub Said : Type 0
@@ -18,11 +16,6 @@ code_of_said (Err (Refused NotWaiting)) = pos 3
 code_of_said (Err (Refused Over)) = pos 4
 code_of_said (Err NotJson) = pos 5
 code_of_said (Err NotText) = pos 6
-code_of_said (Err Settings) = pos 8
-code_of_said (Err (Refused Empty)) = pos 9
-code_of_said (Err (Refused Full)) = pos 10
-
-abbrev pub code_of_got : Got → ℤ
-code_of_got got.Done = pos 0
-code_of_got got.Memory = pos 1
-code_of_got got.Small = pos 7
+code_of_said (Err Settings) = pos 7
+code_of_said (Err (Refused Empty)) = pos 8
+code_of_said (Err (Refused Full)) = pos 9

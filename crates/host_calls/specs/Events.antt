@@ -1,4 +1,4 @@
--- An event's head and texts, and how they lie in a room.
+-- An event's head and texts.
 use Rattle.std.specs.Prelude.{ℕ, List, [], Option, Some, None, ℤ, pos, length, min}
 use Rattle.lsp_frames.specs.declared.frame.FrameFault.TheVariants.{BadHead, BadLength, TwoLengths, TooLarge, NoLength, HeadTooLong, Truncated}
 use Rattle.connection_messages.specs.Texts.{id_text}
@@ -12,7 +12,6 @@ use Rattle.connection_history.specs.declared.close.Close.TheVariants.{Clean, Fau
 use Rattle.connection_history.specs.declared.event.Event.{Event}
 use Rattle.connection_history.specs.declared.event.Event.TheVariants.{Call, Cancelled, Replied, Unanswered, Over, Broken}
 use Rattle.host_calls.specs.declared.head.EventHead.{EventHead}
-use Rattle.host_calls.specs.Rooms.{texts, event_bytes}
 
 abbrev pub no_head : EventHead
 no_head = record { kind = 0; flags = 0; number = 0; key = 0; code = pos 0; name_len = 0; text_len = 0; id_len = 0 }
@@ -101,14 +100,3 @@ id_of (Broken b) = []
 
 abbrev pub head_of : Event → EventHead
 head_of e = head_with (length (name_of e)) (length (text_of e)) (length (id_of e)) e
-
-abbrev pub event_texts : Event → List ℕ
-event_texts e = texts (name_of e) (text_of e) (id_of e)
-
--- an event's head and texts, as they lie in a room of many
-abbrev pub bytes_of : Event → List ℕ
-bytes_of e = event_bytes (head_of e) (name_of e) (text_of e) (id_of e)
-
--- the room that an event alone needs, or as much of it as there can be
-abbrev pub needed : Event → ℕ
-needed e = min (length (bytes_of e)) 18446744073709551615

@@ -2,13 +2,9 @@ pub mod Batches
 pub mod Codes
 pub mod Events
 pub mod Feeding
-pub mod Ids
-pub mod Inner
+pub mod Hosting
 pub mod Outlets
 pub mod Passed
 pub mod Retaining
-pub mod Rooms
 pub mod Saying
 pub mod Sayings
-pub mod Shown
-pub mod Telling

@@ -3,12 +3,10 @@ use Rattle.std.specs.Prelude.{◌≡◌, ◌⊎◌, ℕ, zero, suc, ◌+◌, ◌
 use Rattle.host_calls.specs.declared.code.Why.TheVariants.{Settings}
 use Rattle.host_calls.specs.declared.outlet.Outlet.{Outlet}
 use Rattle.host_calls.specs.declared.sayings.Saying.{Saying}
-use Rattle.host_calls.specs.declared.sayings.AllSaid.{AllSaid}
 use Rattle.host_calls.specs.declared.sayings.SayingKind.{SayingKind}
 use Rattle.host_calls.specs.declared.sayings.SayingKind.TheVariants.{Answer, Fail, Close, Call, Batch, Notify, Withdraw, Cancel}
 use Rattle.host_calls.specs.Batches.{parts}
 use Rattle.host_calls.specs.Codes.{Said, code_of_said}
-use Rattle.host_calls.specs.Feeding.{HasTaken, pending}
 use Rattle.host_calls.specs.Saying.{HasCalled, HasCalledParts, HasNotified, HasWithdrawn, HasAnswered, HasFailed, HasCancelled}
 
 abbrev pub kind_of : ℕ → Option SayingKind
@@ -91,7 +89,7 @@ SaysAll a (suc passed) (h ∷ hs) bytes b (g ∷ gs) n = (g ≡ h) × SaysAll a 
 SaysAll a zero (h ∷ hs) bytes b (g ∷ gs) n = (m : Outlet) × (more : ℕ) × SaysOne a m h hs bytes g × SaysAll m (calls_of h) hs (behind h bytes) b gs more
     × (n ≡ refused_of g + more)
 
--- All are said, and then bytes are taken; or they don't have all bytes, and nothing has changed.
-abbrev pub HasSaidAll : Outlet → Outlet → List Saying → List Saying → List ℕ → List ℕ → List ℕ → AllSaid → AllSaid → Said → Type 0
-HasSaidAll a b hs gs bytes r s k it (Ok _) = (are_whole hs bytes ≡ true) × ((m : Outlet) × SaysAll a 0 hs bytes m gs it.refused × HasTaken m b r s it.taken × (it.pending ≡ pending b))
-HasSaidAll a b hs gs bytes r s k it (Err why) = (are_whole hs bytes ≡ false) × (why ≡ Settings) × (b ≡ a) × (gs ≡ hs) × (s ≡ r) × (it ≡ k)
+-- All are said; or they don't have all bytes, and nothing has changed.
+abbrev pub HasSaidAll : Outlet → Outlet → List Saying → List Saying → List ℕ → ℕ → ℕ → Said → Type 0
+HasSaidAll a b hs gs bytes k refused (Ok _) = (are_whole hs bytes ≡ true) × SaysAll a 0 hs bytes b gs refused
+HasSaidAll a b hs gs bytes k refused (Err why) = (are_whole hs bytes ≡ false) × (why ≡ Settings) × (b ≡ a) × (gs ≡ hs) × (refused ≡ k)

@@ -1,8 +1,7 @@
 //! What a call answers, as a number.
 ghost use Rattle.std.specs.Prelude.{◌≡◌};
-ghost use Rattle.host_calls.specs.Codes.{code_of_said, code_of_got};
+ghost use Rattle.host_calls.specs.Codes.{code_of_said};
 
-use crate::asking::Got;
 use connection::Refused;
 use std::alloc::AllocError;
 
@@ -50,21 +49,11 @@ pub fn code_of(answer: Result<(), Why>) -> i32
             Refused::NotOpen => 2,
             Refused::NotWaiting => 3,
             Refused::Over => 4,
-            Refused::Empty => 9,
-            Refused::Full => 10,
+            Refused::Empty => 8,
+            Refused::Full => 9,
         },
         Err(Why::NotJson) => 5,
         Err(Why::NotText) => 6,
-        Err(Why::Settings) => 8,
-    }
-}
-
-pub fn code_of_got(got: &Got) -> i32
-    ensures { result ≡ code_of_got got.now }
-{
-    match got {
-        Got::Done => 0,
-        Got::Memory => 1,
-        Got::Small => 7,
+        Err(Why::Settings) => 7,
     }
 }

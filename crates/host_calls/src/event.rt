@@ -1,22 +1,59 @@
 //! An event's head and texts.
 
-ghost use Rattle.std.specs.Prelude.{◌≡◌, length};
-ghost use Rattle.host_calls.specs.Events.{head_with, name_of, text_of, flag_of, replied_with, broken_with, count_of};
+ghost use Rattle.std.specs.Prelude.{◌≡◌, [], length};
+ghost use Rattle.host_calls.specs.Events.{head_with, name_of, text_of, or_empty, flag_of, replied_with, broken_with, count_of};
 
 use crate::head::{EventHead, NO_HEAD};
-use crate::room::EventTexts;
 use connection_history::{Close, Defect, Event};
 use connection_messages::Reply;
+use json_values::Text;
 use lsp_frames::FrameFault;
+use std::alloc::Global;
 
-/// An event's head, with the lengths of these texts.
-pub(crate) fn head_of(event: &Event, texts: &EventTexts<'_>) -> EventHead
-    ensures { result ≡ head_with (length texts.now.name.now) (length texts.now.text.now) (length texts.now.id.now) event.now }
+/// An event's texts. What an event hasn't is empty.
+#[derive(Drop)]
+pub struct EventTexts {
+    /// A method, or an error's message.
+    pub name: Vec<u8>,
+    /// Params, a result, an error's data, or the start of a broken content.
+    pub text: Vec<u8>,
+    pub id: Vec<u8>,
+}
+
+impl EventTexts {
+    /// Takes no memory.
+    pub(crate) fn none(alloc: Global) -> EventTexts
+        ensures name { result.name.items ≡ [] }
+        ensures text { result.text.items ≡ [] }
+        ensures id { result.id.items ≡ [] }
+    {
+        EventTexts {
+            name: Vec::new(alloc),
+            text: Vec::new(alloc),
+            id: Vec::new(alloc),
+        }
+    }
+
+    /// Moves an event's name and text here. Takes no memory.
+    pub(crate) fn take_from(&mut self, alloc: Global, event: Event)
+        ensures name { self.new.name.items ≡ name_of event }
+        ensures text { self.new.text.items ≡ text_of event }
+        ensures id { self.new.id ≡ self.old.id }
+    {
+        let (name, text) = texts_of(alloc, event);
+        self.name = name;
+        self.text = text;
+    }
+}
+
+/// An event's head, where its id has so many bytes.
+pub(crate) fn head_of(event: &Event, id_len: usize) -> EventHead
+    ensures { result ≡ head_with (length (name_of event.now)) (length (text_of event.now)) id_len event.now }
 {
     let head = EventHead {
-        name_len: texts.name.len(),
-        text_len: texts.text.len(),
-        id_len: texts.id.len(),
+        name_len: name_of(event).len(),
+        text_len: text_of(event).len(),
+        id_len,
         ..NO_HEAD
     };
     match event {
@@ -112,19 +149,6 @@ fn flag_of(close: Close) -> u32
     }
 }
 
-/// An event's texts, with its id as this text.
-pub(crate) fn texts_of<'a>(event: &'a Event, id: &'a [u8]) -> EventTexts<'a>
-    ensures name { result.name.now ≡ name_of event.now }
-    ensures text { result.text.now ≡ text_of event.now }
-    ensures id { result.id.now ≡ id.now }
-{
-    EventTexts {
-        name: name_of(event),
-        text: text_of(event),
-        id,
-    }
-}
-
 fn name_of(event: &Event) -> &[u8]
     ensures { result.now ≡ name_of event.now }
 {
@@ -155,5 +179,36 @@ fn text_of(event: &Event) -> &[u8]
         },
         Event::Broken(broken) => broken.start.as_slice(),
         _ => &[],
+    }
+}
+
+/// An event's name and text, each by itself.
+fn texts_of(alloc: Global, event: Event) -> (Vec<u8>, Vec<u8>)
+    ensures name { result.0.items ≡ name_of event }
+    ensures text { result.1.items ≡ text_of event }
+{
+    match event {
+        Event::Call { call, .. } => (bytes_of(call.method), bytes_or_none(alloc, call.params)),
+        Event::Replied { reply, .. } => match reply {
+            Reply::Result(text) => (Vec::new(alloc), bytes_of(text)),
+            Reply::Error(error) => (bytes_of(error.message), bytes_or_none(alloc, error.data)),
+        },
+        Event::Broken(broken) => (Vec::new(alloc), broken.start.into_vec()),
+        _ => (Vec::new(alloc), Vec::new(alloc)),
+    }
+}
+
+fn bytes_of(text: Text) -> Vec<u8>
+    ensures { result.items ≡ text }
+{
+    text.into_string().into_bytes()
+}
+
+fn bytes_or_none(alloc: Global, text: Option<Text>) -> Vec<u8>
+    ensures { result.items ≡ or_empty text }
+{
+    match text {
+        Some(text) => bytes_of(text),
+        None => Vec::new(alloc),
     }
 }

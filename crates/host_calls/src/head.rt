@@ -1,3 +1,10 @@
+//! An event as C has it.
+
+ghost use Rattle.std.specs.Prelude.{◌≡◌};
+ghost use Rattle.host_calls.specs.Hosting.{lent_as};
+
+use crate::event::EventTexts;
+
 /// An event's head, as C has it.
 #[repr(C)]
 #[derive(Clone, Copy)]
@@ -29,3 +36,27 @@ pub const NO_HEAD: EventHead = EventHead {
     text_len: 0,
     id_len: 0,
 };
+
+/// An event as C has it: its head, and where its texts lie.
+#[repr(C)]
+#[derive(Drop)]
+pub struct LentEvent {
+    pub head: EventHead,
+    pub name: *const u8,
+    pub text: *const u8,
+    pub id: *const u8,
+}
+
+impl LentEvent {
+    /// With this head, of these texts.
+    pub(crate) fn new(head: EventHead, texts: &EventTexts) -> LentEvent
+        ensures { result ≡ lent_as head texts.now }
+    {
+        LentEvent {
+            head,
+            name: texts.name.as_ptr(),
+            text: texts.text.as_ptr(),
+            id: texts.id.as_ptr(),
+        }
+    }
+}

@@ -1,10 +1,9 @@
 //! An event's id as JSON.
 
-ghost use Rattle.std.specs.Prelude.{◌≡◌, [], IfOk};
+ghost use Rattle.std.specs.Prelude.{◌≡◌, [], IfOk, OnOk};
 ghost use Rattle.json.specs.Print.{quoted};
 ghost use Rattle.connection_messages.specs.Texts.{id_text};
 ghost use Rattle.host_calls.specs.Events.{id_of};
-ghost use Rattle.host_calls.specs.Ids.{bytes_of};
 
 use connection_history::Event;
 use itoa::Buffer;
@@ -12,49 +11,39 @@ use json::Writer;
 use message_ids::Id;
 use std::alloc::{AllocError, Global};
 
-/// The bytes of an id. Only a string's are on the heap.
-#[derive(Drop)]
-pub(crate) enum IdText<'a> {
-    Short(&'a [u8]),
-    Quoted(Vec<u8>),
-}
+/// Room for so many bytes is kept, however short the next id is.
+const KEPT_ROOM: usize = 4096;
 
-impl IdText<'_> {
-    pub(crate) fn as_bytes(&self) -> &[u8]
-        ensures { result.now ≡ bytes_of self.now }
-    {
-        match self {
-            IdText::Short(bytes) => bytes,
-            IdText::Quoted(bytes) => bytes.as_slice(),
-        }
-    }
-}
-
-/// An event's id as JSON, which is empty where it has none. A number's digits lie in the buffer.
-pub(crate) fn id_of<'a>(
-    alloc: Global,
-    event: &Event,
-    digits: &'a mut Buffer,
-) -> Result<IdText<'a>, AllocError>
-    ensures { IfOk result (λ text. bytes_of text ≡ id_of event.now) }
+/// Puts an event's id as JSON in place of what was there; nothing, where the event has none.
+pub(crate) fn put_id(alloc: Global, event: &Event, room: &mut Vec<u8>) -> Result<(), AllocError>
+    ensures { OnOk result (room.new.items ≡ id_of event.now) }
 {
+    room.clear();
+    if room.capacity() > KEPT_ROOM {
+        *room = Vec::new(alloc);
+    }
     match event {
         Event::Call { call, .. } => match &call.id {
-            Some(id) => text_of(alloc, id, digits),
-            None => Ok(IdText::Short(&[])),
+            Some(id) => put_text(alloc, id, room),
+            None => Ok(()),
         },
-        _ => Ok(IdText::Short(&[])),
+        _ => Ok(()),
     }
 }
 
-fn text_of<'a>(alloc: Global, id: &Id, digits: &'a mut Buffer) -> Result<IdText<'a>, AllocError>
-    ensures { IfOk result (λ text. bytes_of text ≡ id_text id.now) }
+/// Puts an id's text into this room, which is empty.
+fn put_text(alloc: Global, id: &Id, room: &mut Vec<u8>) -> Result<(), AllocError>
+    requires { room.old.items ≡ [] }
+    ensures { OnOk result (room.new.items ≡ id_text id.now) }
 {
     match id {
-        Id::Null => Ok(IdText::Short(b"null")),
-        Id::Text(text) => Ok(IdText::Quoted(quoted(alloc, text.as_str())?)),
-        Id::Signed(number) => Ok(IdText::Short(digits.format(number.get()).as_bytes())),
-        Id::Unsigned(number) => Ok(IdText::Short(digits.format(*number).as_bytes())),
+        Id::Null => room.extend_from_slice(b"null"),
+        Id::Text(text) => {
+            *room = quoted(alloc, text.as_str())?;
+            Ok(())
+        }
+        Id::Signed(number) => room.extend_from_slice(Buffer::new().format(number.get()).as_bytes()),
+        Id::Unsigned(number) => room.extend_from_slice(Buffer::new().format(*number).as_bytes()),
     }
 }
 

@@ -1,6 +1,6 @@
 //! What a host in another language does with a connection: it passes numbers and bytes, and gets a code, numbers and
-//! bytes. Bytes that it passes are read here. Events wait here until they fit its room, each a head of a fixed size with
-//! its texts behind.
+//! the places of bytes. Bytes that it passes are read here. What it gets is lent, and lies here: the texts of the event
+//! that was told last, and what is to be written.
 #![tactic(auto)]
 
 mod asking;
@@ -9,20 +9,20 @@ mod code;
 mod event;
 mod feeding;
 mod head;
+mod hosted;
 mod id;
 mod outlet;
+mod output;
 mod part;
-mod put;
-mod room;
+mod place;
 mod saying;
 mod sayings;
-mod shown;
 mod telling;
 mod texts;
 
-pub use asking::Got;
-pub use code::{Why, code_of, code_of_got};
-pub use head::EventHead;
+pub use code::{Why, code_of};
+pub use event::EventTexts;
+pub use head::{EventHead, LentEvent};
+pub use hosted::HostedConnection;
 pub use outlet::Outlet;
-pub use sayings::{AllSaid, Saying, SayingKind};
-pub use telling::Told;
+pub use sayings::{Saying, SayingKind};

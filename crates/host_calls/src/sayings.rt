@@ -31,18 +31,6 @@ pub struct Saying {
     pub calls: usize,
 }
 
-/// How it went to say several things, as C has it.
-#[repr(C)]
-#[derive(Clone, Copy)]
-pub struct AllSaid {
-    /// How many got another code than 0.
-    pub refused: usize,
-    /// How many bytes were taken.
-    pub taken: usize,
-    /// How many are still to be written.
-    pub pending: usize,
-}
-
 /// What is said.
 #[derive(Clone, Copy)]
 pub enum SayingKind {
@@ -57,27 +45,20 @@ pub enum SayingKind {
 }
 
 impl Outlet {
-    /// Says these things in their order, each by itself, whose names and texts are cut off the bytes. Then takes what is
-    /// to be written.
+    /// Says these things in their order, each by itself, whose names and texts are cut off the bytes. Tells how many got
+    /// another code than 0.
     pub fn say_all(
         &mut self,
         sayings: &mut [Saying],
         bytes: &[u8],
-        room: &mut [u8],
-        all: &mut AllSaid,
+        refused: &mut usize,
     ) -> Result<(), Why>
-        ensures { HasSaidAll self.old self.new sayings.old sayings.new bytes.now room.old room.new all.old all.new result }
+        ensures { HasSaidAll self.old self.new sayings.old sayings.new bytes.now refused.old refused.new result }
     {
         if !are_whole(sayings, bytes) {
             return Err(Why::Settings);
         }
-        let refused = self.say_each(sayings, bytes);
-        let taken = self.take(room);
-        *all = AllSaid {
-            refused,
-            taken,
-            pending: self.connection.pending(),
-        };
+        *refused = self.say_each(sayings, bytes);
         Ok(())
     }
 

@@ -11,4 +11,4 @@ Said = Result (Unit {0}) NotSeen
 abbrev pub code_of_said : Said → ℤ
 code_of_said (Ok _) = pos 0
 code_of_said (Err Memory) = pos 1
-code_of_said (Err Settings) = pos 8
+code_of_said (Err Settings) = pos 7

@@ -32,6 +32,6 @@ pub fn code_of(answer: Result<(), NotSeen>) -> i32
     match answer {
         Ok(()) => 0,
         Err(NotSeen::Memory) => 1,
-        Err(NotSeen::Settings) => 8,
+        Err(NotSeen::Settings) => 7,
     }
 }

@@ -1,29 +1,40 @@
 -- What is left of the texts after more are put, after they are taken back, and after a take.
-use Rattle.std.proofs.Common.{◌≡◌, ◌≢◌, ℕ, ◌+◌, ◌<◌, ◌-◌, ◌≤◌, List, [], ◌∷◌, ◌++◌, length, take, drop, map, slice_index_or, nat_le, true, refl, ap, sym, ◌∙◌, subst, arith, append_assoc, append-nil, length-append, length-drop}
+use Rattle.std.proofs.Common.{◌≡◌, ◌≢◌, ℕ, ◌+◌, ◌≤◌, List, [], ◌∷◌, ◌++◌, length, take, drop, nat_le, true, refl, ap, sym, ◌∙◌, subst, arith, append-nil, length-append, length-drop}
 use Rattle.std.proofs.lemmas.Grind.{common_steps, flat_map-append}
-use Rattle.std.proofs.lemmas.List.{drop-append-le, drop-drop, map-append, take-append-drop}
-use Rattle.std.proofs.Math.Seq.{take-add, take-append_seam, take-append-add, drop-append_seam, drop-append-add}
+use Rattle.std.proofs.lemmas.List.{drop-append-le, drop-drop, take-append-drop}
+use Rattle.std.proofs.Math.Seq.{take-add, take-append_seam}
 use Rattle.content_streams.specs.declared.framing.Framing.{Framing}
 use Rattle.content_streams.specs.declared.framing.Framing.TheVariants.{Frames, Lines, Contents}
-use Rattle.outbox.specs.Output.{Output, OnlyPutSince, framed, bytes_of_texts, full_count, next_bytes, bytes_given, count_given, first_text, fitting_text}
-use Rattle.outbox.specs.Inner.{bytes_left, lengths_of, IsKept, IsMarked}
+use Rattle.outbox.specs.Output.{Output, OnlyPutSince, framed, bytes_of_texts, full_count, next_bytes, bytes_given, count_given, fitting_text}
+use Rattle.outbox.specs.Inner.{bytes_left, texts_left, IsKept, IsMarked}
 
 -- more texts
 
+-- the bytes that are kept of one more text
+abbrev pub more_bytes : Framing → List (List ℕ) → List ℕ
+more_bytes Frames more = bytes_of_texts Frames more
+more_bytes Lines more = bytes_of_texts Lines more
+more_bytes Contents more = []
+
+-- the texts that are kept of one more
+abbrev pub more_texts : Framing → List (List ℕ) → List (List ℕ)
+more_texts Frames more = []
+more_texts Lines more = []
+more_texts Contents more = more
+
 pub bytes_more : (framing : Framing) (texts more : List (List ℕ)) (taken : ℕ) → taken ≤ full_count framing texts
-    → bytes_left framing (texts ++ more) taken ≡ bytes_left framing texts taken ++ bytes_of_texts framing more
+    → bytes_left framing (texts ++ more) taken ≡ bytes_left framing texts taken ++ more_bytes framing more
 bytes_more Frames texts more taken within =
     ap (drop taken) (flat_map-append (framed Frames) texts more) ∙ drop-append-le taken (bytes_of_texts Frames texts) (bytes_of_texts Frames more) within
 bytes_more Lines texts more taken within =
     ap (drop taken) (flat_map-append (framed Lines) texts more) ∙ drop-append-le taken (bytes_of_texts Lines texts) (bytes_of_texts Lines more) within
-bytes_more Contents texts more taken within =
-    ap (bytes_of_texts Contents) (drop-append-le taken texts more within) ∙ flat_map-append (framed Contents) (drop taken texts) more
+bytes_more Contents texts more taken within = refl
 
-pub lengths_more : (framing : Framing) (texts more : List (List ℕ)) (taken : ℕ) → taken ≤ full_count framing texts
-    → lengths_of framing (drop taken (texts ++ more)) ≡ lengths_of framing (drop taken texts) ++ lengths_of framing more
-lengths_more Frames texts more taken within = refl
-lengths_more Lines texts more taken within = refl
-lengths_more Contents texts more taken within = ap (map length) (drop-append-le taken texts more within) ∙ map-append length (drop taken texts) more
+pub texts_more : (framing : Framing) (texts more : List (List ℕ)) (taken : ℕ) → taken ≤ full_count framing texts
+    → texts_left framing (texts ++ more) taken ≡ texts_left framing texts taken ++ more_texts framing more
+texts_more Frames texts more taken within = refl
+texts_more Lines texts more taken within = refl
+texts_more Contents texts more taken within = drop-append-le taken texts more within
 
 pub full_more : (framing : Framing) (texts more : List (List ℕ)) (taken : ℕ) → taken ≤ full_count framing texts → taken ≤ full_count framing (texts ++ more)
 full_more Frames texts more taken within =
@@ -32,18 +43,28 @@ full_more Lines texts more taken within =
     omega (arith, ap length (flat_map-append (framed Lines) texts more), length-append (bytes_of_texts Lines texts) (bytes_of_texts Lines more))
 full_more Contents texts more taken within = omega (arith, length-append texts more)
 
-pub kept_more : (framing : Framing) (texts : List (List ℕ)) (text : List ℕ) (taken : ℕ) (bytes lengths : List ℕ)
-    → IsKept framing texts taken bytes lengths
-    → IsKept framing (texts ++ text ∷ []) taken (bytes ++ framed framing text) (lengths ++ lengths_of framing (text ∷ []))
-kept_more framing texts text taken bytes lengths kept = record {
-  bytes =
-      ap (λ left. left ++ framed framing text) kept.bytes
-      ∙ ap (λ last. bytes_left framing texts taken ++ last) (sym (append-nil (framed framing text)))
-      ∙ sym (bytes_more framing texts (text ∷ []) taken kept.within);
-  lengths =
-      ap (λ left. left ++ lengths_of framing (text ∷ [])) kept.lengths
-      ∙ sym (lengths_more framing texts (text ∷ []) taken kept.within);
-  within = full_more framing texts (text ∷ []) taken kept.within;
+-- one more text, in Frames and Lines by its bytes
+pub kept_bytes : (framing : Framing) (texts : List (List ℕ)) (text : List ℕ) (taken : ℕ) (bytes : List ℕ) (kept : List (List ℕ))
+    → framing ≢ Contents → IsKept framing texts taken bytes kept → IsKept framing (texts ++ text ∷ []) taken (bytes ++ framed framing text) kept
+kept_bytes Frames texts text taken bytes kept stream is = record {
+  bytes = ap (λ b. b ++ framed Frames text) is.bytes ∙ ap (λ last. bytes_left Frames texts taken ++ last) (sym (append-nil (framed Frames text))) ∙ sym (bytes_more Frames texts (text ∷ []) taken is.within);
+  texts = is.texts;
+  within = full_more Frames texts (text ∷ []) taken is.within;
+}
+kept_bytes Lines texts text taken bytes kept stream is = record {
+  bytes = ap (λ b. b ++ framed Lines text) is.bytes ∙ ap (λ last. bytes_left Lines texts taken ++ last) (sym (append-nil (framed Lines text))) ∙ sym (bytes_more Lines texts (text ∷ []) taken is.within);
+  texts = is.texts;
+  within = full_more Lines texts (text ∷ []) taken is.within;
+}
+kept_bytes Contents texts text taken bytes kept stream is = absurd (stream refl)
+
+-- and in Contents by itself
+pub kept_text : (texts : List (List ℕ)) (text : List ℕ) (taken : ℕ) (bytes : List ℕ) (kept : List (List ℕ))
+    → IsKept Contents texts taken bytes kept → IsKept Contents (texts ++ text ∷ []) taken bytes (kept ++ text ∷ [])
+kept_text texts text taken bytes kept is = record {
+  bytes = is.bytes;
+  texts = ap (λ ts. ts ++ text ∷ []) is.texts ∙ sym (texts_more Contents texts (text ∷ []) taken is.within);
+  within = full_more Contents texts (text ∷ []) taken is.within;
 }
 
 -- back to fewer texts
@@ -54,69 +75,52 @@ pub seen_since : (before now seen_before seen_now : Output) → before ≡ seen_
 seen_since before now seen_before seen_now was is since =
     subst (λ o. OnlyPutSince o now) (sym was) (subst (λ o. OnlyPutSince seen_before o) (sym is) since)
 
-pub bytes_fit : (framing : Framing) (texts now : List (List ℕ)) (taken count : ℕ) (bytes lengths : List ℕ) (marked : ℕ)
-    → take (length texts) now ≡ texts → IsMarked framing texts taken count marked → IsKept framing now taken bytes lengths
+pub bytes_fit : (framing : Framing) (texts now : List (List ℕ)) (taken count : ℕ) (bytes : List ℕ) (kept : List (List ℕ)) (marked : ℕ)
+    → take (length texts) now ≡ texts → IsMarked framing texts taken count marked → IsKept framing now taken bytes kept
     → count ≤ length bytes
-bytes_fit framing texts now taken count bytes lengths marked front mark kept =
+bytes_fit framing texts now taken count bytes kept marked front mark is =
     let more = drop (length texts) now in
     let whole : now ≡ texts ++ more = sym (take-append-drop (length texts) now) ∙ ap (λ ts. ts ++ more) front in
-    let is : bytes ≡ bytes_left framing texts taken ++ bytes_of_texts framing more =
-    kept.bytes ∙ ap (λ ts. bytes_left framing ts taken) whole ∙ bytes_more framing texts more taken mark.within in
-    omega (arith, mark.bytes, ap length is, length-append (bytes_left framing texts taken) (bytes_of_texts framing more))
+    let are : bytes ≡ bytes_left framing texts taken ++ more_bytes framing more =
+    is.bytes ∙ ap (λ ts. bytes_left framing ts taken) whole ∙ bytes_more framing texts more taken mark.within in
+    omega (arith, mark.bytes, ap length are, length-append (bytes_left framing texts taken) (more_bytes framing more))
 
-pub kept_back : (framing : Framing) (texts now : List (List ℕ)) (taken count marked : ℕ) (bytes lengths : List ℕ)
-    → take (length texts) now ≡ texts → IsMarked framing texts taken count marked → IsKept framing now taken bytes lengths
-    → IsKept framing texts taken (take count bytes) (take marked lengths)
-kept_back framing texts now taken count marked bytes lengths front mark kept =
+pub kept_back : (framing : Framing) (texts now : List (List ℕ)) (taken count marked : ℕ) (bytes : List ℕ) (kept : List (List ℕ))
+    → take (length texts) now ≡ texts → IsMarked framing texts taken count marked → IsKept framing now taken bytes kept
+    → IsKept framing texts taken (take count bytes) (take marked kept)
+kept_back framing texts now taken count marked bytes kept front mark is =
     let more = drop (length texts) now in
     let whole : now ≡ texts ++ more = sym (take-append-drop (length texts) now) ∙ ap (λ ts. ts ++ more) front in
     let left = bytes_left framing texts taken in
-    let counts = lengths_of framing (drop taken texts) in
-    let is : bytes ≡ left ++ bytes_of_texts framing more =
-    kept.bytes ∙ ap (λ ts. bytes_left framing ts taken) whole ∙ bytes_more framing texts more taken mark.within in
-    let are : lengths ≡ counts ++ lengths_of framing more =
-    kept.lengths ∙ ap (λ ts. lengths_of framing (drop taken ts)) whole ∙ lengths_more framing texts more taken mark.within in
+    let others = texts_left framing texts taken in
+    let are : bytes ≡ left ++ more_bytes framing more =
+    is.bytes ∙ ap (λ ts. bytes_left framing ts taken) whole ∙ bytes_more framing texts more taken mark.within in
+    let stay : kept ≡ others ++ more_texts framing more =
+    is.texts ∙ ap (λ ts. texts_left framing ts taken) whole ∙ texts_more framing texts more taken mark.within in
     record {
-      bytes = ap (λ n. take n bytes) mark.bytes ∙ ap (take (length left)) is ∙ take-append_seam left (bytes_of_texts framing more);
-      lengths = ap (λ n. take n lengths) mark.lengths ∙ ap (take (length counts)) are ∙ take-append_seam counts (lengths_of framing more);
+      bytes = ap (λ n. take n bytes) mark.bytes ∙ ap (take (length left)) are ∙ take-append_seam left (more_bytes framing more);
+      texts = ap (λ n. take n kept) mark.texts ∙ ap (take (length others)) stay ∙ take-append_seam others (more_texts framing more);
       within = mark.within;
     }
 
 -- after a take in Contents
 
--- the first text of those that are left, by its length
-pub first_left : (texts : List (List ℕ)) (lengths : List ℕ) (count : ℕ) → lengths ≡ map length texts → 0 < length lengths
-    → count ≡ slice_index_or lengths 0 count → (text : List ℕ) × (rest : List (List ℕ)) × (texts ≡ text ∷ rest) × (count ≡ length text)
-first_left [] lengths count are some is = absurd (omega (arith, ap length are))
-first_left (text ∷ rest) lengths count are some is = (text, rest, refl, is ∙ ap (λ ns. slice_index_or ns 0 count) are)
-
-pub kept_after : (texts : List (List ℕ)) (taken : ℕ) (bytes lengths : List ℕ) (text : List ℕ) (rest : List (List ℕ))
-    → drop taken texts ≡ text ∷ rest → IsKept Contents texts taken bytes lengths
-    → IsKept Contents texts (taken + 1) (drop (length text) bytes) (drop 1 lengths)
-kept_after texts taken bytes lengths text rest left kept =
+pub kept_after : (texts : List (List ℕ)) (taken : ℕ) (bytes text : List ℕ) (rest kept : List (List ℕ))
+    → drop taken texts ≡ text ∷ rest → IsKept Contents texts taken bytes kept → IsKept Contents texts (taken + 1) bytes rest
+kept_after texts taken bytes text rest kept left is =
     let next : drop (taken + 1) texts ≡ rest = sym (drop-drop 1 taken texts) ∙ ap (drop 1) left in
     record {
-      bytes =
-          ap (drop (length text)) (kept.bytes ∙ ap (bytes_of_texts Contents) left)
-          ∙ drop-append_seam text (bytes_of_texts Contents rest) ∙ ap (bytes_of_texts Contents) (sym next);
-      lengths = ap (drop 1) (kept.lengths ∙ ap (map length) left) ∙ ap (map length) (sym next);
-      within = omega (arith, kept.within, ap length left, length-drop taken texts);
+      bytes = is.bytes;
+      texts = sym next;
+      within = omega (arith, is.within, ap length left, length-drop taken texts);
     }
 
-pub text_of_bytes : (texts : List (List ℕ)) (taken : ℕ) (bytes lengths : List ℕ) (text : List ℕ) (rest : List (List ℕ))
-    → drop taken texts ≡ text ∷ rest → IsKept Contents texts taken bytes lengths
-    → (take (length text) bytes ≡ text) × (length text ≤ length bytes)
-text_of_bytes texts taken bytes lengths text rest left kept =
-    let is : bytes ≡ text ++ bytes_of_texts Contents rest = kept.bytes ∙ ap (bytes_of_texts Contents) left in (
-      ap (take (length text)) is ∙ take-append_seam text (bytes_of_texts Contents rest),
-      omega (arith, ap length is, length-append text (bytes_of_texts Contents rest)),
-    )
-
+-- a text has room for itself
 pub text_given : (texts : List (List ℕ)) (taken room : ℕ) (text : List ℕ) (rest : List (List ℕ))
-    → drop taken texts ≡ text ∷ rest → length text ≤ room → bytes_given Contents texts taken room ≡ text
+    → drop taken texts ≡ text ∷ rest → length text ≤ room → fitting_text room (drop taken texts) ≡ text ∷ []
 text_given texts taken room text rest left fits =
     let is : nat_le (length text) room ≡ true = grind (arith, common_steps) in
-    ap (λ ts. first_text (fitting_text room ts)) left ∙ rw is
+    ap (λ ts. fitting_text room ts) left ∙ rw is
 
 -- the laws
 
@@ -143,39 +147,3 @@ pub taken_given : (framing : Framing) (texts : List (List ℕ)) (taken room : �
 taken_given Frames texts taken room stream = taken_more (bytes_of_texts Frames texts) taken room
 taken_given Lines texts taken room stream = taken_more (bytes_of_texts Lines texts) taken room
 taken_given Contents texts taken room stream = absurd (stream refl)
-
--- a take that goes on in the block behind
-
-pub begins_at_none : (start : ℕ) (bytes : List ℕ) → start + start ≤ length bytes → drop start bytes ≡ [] → start ≡ 0
-begins_at_none start bytes few none = omega (arith, few, ap length none, length-drop start bytes)
-
-pub rest_behind : (front back : List ℕ) (count : ℕ) → length front ≤ count
-    → drop (count - length front) back ≡ drop count (front ++ back)
-rest_behind front back count goes_on =
-    let whole : length front + (count - length front) ≡ count = omega (arith, goes_on) in
-    sym (drop-append-add front back (count - length front)) ∙ ap (λ n. drop n (front ++ back)) whole
-
-pub given_behind : (front back : List ℕ) (count : ℕ) → length front ≤ count
-    → front ++ take (count - length front) back ≡ take count (front ++ back)
-given_behind front back count goes_on =
-    let whole : length front + (count - length front) ≡ count = omega (arith, goes_on) in
-    sym (take-append-add front back (count - length front)) ∙ ap (λ n. take n (front ++ back)) whole
-
--- what stands in the room then, of which the first part was as long as what was in front
-pub given_across : (front back first others : List ℕ) (count : ℕ) → length front ≤ count → length first ≡ length front
-    → (take (length front) front ++ drop (length front) first) ++ (take (count - length front) back ++ drop (count - length front) others)
-    ≡ take count (front ++ back) ++ drop count (first ++ others)
-given_across front back first others count goes_on long =
-    let more = take (count - length front) back in
-    let kept = drop (count - length front) others in
-    let all : take (length front) front ≡ front = sym (ap (take (length front)) (append-nil front)) ∙ take-append_seam front [] in
-    let none : drop (length front) first ≡ [] =
-    sym (ap (λ n. drop n first) long) ∙ sym (ap (drop (length first)) (append-nil first)) ∙ drop-append_seam first [] in
-    let rest : kept ≡ drop count (first ++ others) =
-    sym (ap (λ n. drop (count - n) others) long) ∙ rest_behind first others count (omega (arith, goes_on, long)) in
-    ap (λ bytes. (bytes ++ drop (length front) first) ++ (more ++ kept)) all
-    ∙ ap (λ bytes. (front ++ bytes) ++ (more ++ kept)) none
-    ∙ ap (λ bytes. bytes ++ (more ++ kept)) (append-nil front)
-    ∙ sym (append_assoc front more kept)
-    ∙ ap (λ bytes. bytes ++ kept) (given_behind front back count goes_on)
-    ∙ ap (λ bytes. take count (front ++ back) ++ bytes) rest

@@ -1,30 +1,35 @@
-ghost use Rattle.std.specs.Prelude.{◌≡◌, ◌≤◌, ◌++◌, [], length, take, drop, OnOk, OnErr};
+ghost use Rattle.std.specs.Prelude.{◌≡◌, ◌≤◌, ◌++◌, ◌∷◌, [], length, take, drop, OnOk, OnErr};
 ghost use Rattle.outbox.specs.Output.{framed};
 
-use crate::stretch::{Stretch, give_room_back, put_text};
 use content_streams::Framing;
+use lsp_frames::{put_frame, put_head};
 use std::alloc::{AllocError, Global};
 use std::marker::Model;
 use std::mem;
 
 /// A text that is longer is moved where it can be. Up to here its room is worth more: a desk keeps it for the next text.
-const MOST_COPIED: usize = 65_536;
+pub(crate) const MOST_COPIED: usize = 65_536;
 
-/// Bytes that are put at the end and taken at the front. Their memory follows those that aren't taken: of those that were,
-/// no more are held than are left.
+/// Room for so many bytes is kept, however few are left.
+const KEPT_ROOM: usize = 4096;
+
+/// Bytes that are put at the end, and taken at the front by whole blocks of memory.
 #[derive(Drop)]
 pub struct BytesLeft {
-    front: Stretch,
+    /// The first bytes. There are none only where there are none at all.
+    front: Vec<u8>,
     /// Those behind the others: a long text that was moved here, and what was put behind it.
     back: Vec<u8>,
 }
 
 impl Model for BytesLeft {
-    ghost use Rattle.std.specs.Prelude.{List, ℕ, ◌++◌};
+    ghost use Rattle.std.specs.Prelude.{List, ℕ, [], ◌≡◌, ◌++◌};
 
     ghost Value = { List ℕ };
 
-    ghost view = { λ a. a.front ++ a.back.items };
+    ghost view = { λ a. a.front.items ++ a.back.items };
+
+    ghost invariant = { λ a. a.front.items ≡ [] → a.back.items ≡ [] };
 }
 
 impl BytesLeft {
@@ -33,7 +38,7 @@ impl BytesLeft {
         ensures { result ≡ [] }
     {
         BytesLeft {
-            front: Stretch::new(alloc),
+            front: Vec::new(alloc),
             back: Vec::new(alloc),
         }
     }
@@ -41,7 +46,7 @@ impl BytesLeft {
     pub fn len(&self) -> usize
         ensures { result ≡ length self.now }
     {
-        self.front.len() + self.back.as_slice().len()
+        self.front.as_slice().len() + self.back.as_slice().len()
     }
 
     /// Puts the text at the end, as this framing writes it.
@@ -50,7 +55,7 @@ impl BytesLeft {
         ensures err { OnErr result (self.new ≡ self.old) }
     {
         if self.back.is_empty() {
-            self.front.put(framing, text)
+            put_text(&mut self.front, framing, text)
         } else {
             put_text(&mut self.back, framing, text)
         }
@@ -62,19 +67,12 @@ impl BytesLeft {
         ensures ok { OnOk result (self.new ≡ self.old ++ framed framing room.old.items) }
         ensures err { OnErr result (self.new ≡ self.old) }
     {
-        if room.len() <= MOST_COPIED {
-            return self.put(framing, room.as_slice());
+        if room.len() > MOST_COPIED && self.back.is_empty() {
+            put_around(&mut self.front, framing, room)?;
+            move_behind(&mut self.front, &mut self.back, room);
+            return Ok(());
         }
-        if !self.back.is_empty() {
-            return put_text(&mut self.back, framing, room.as_slice());
-        }
-        match framing {
-            Framing::Frames => self.front.put_head(room.len())?,
-            Framing::Lines => room.push(b'\n')?,
-            Framing::Contents => {}
-        }
-        mem::swap(&mut self.back, room);
-        Ok(())
+        self.put(framing, room.as_slice())
     }
 
     /// Keeps the first so many bytes.
@@ -85,22 +83,80 @@ impl BytesLeft {
         let in_front = count.min(self.front.len());
         self.front.truncate(in_front);
         self.back.truncate(count - in_front);
+        give_room_back(&mut self.front);
         give_room_back(&mut self.back);
     }
 
-    /// Moves the first so many bytes to the front of the room.
-    pub fn take(&mut self, count: usize, room: &mut [u8])
-        requires bytes { count ≤ length self.old }
-        requires room { count ≤ length room.old }
-        ensures bytes { self.new ≡ drop count self.old }
-        ensures room { room.new ≡ take count self.old ++ drop count room.old }
+    /// Moves the first bytes to this block, in whose room the next ones are put then; none, only where there are none.
+    pub fn take(&mut self, block: &mut Vec<u8>)
+        ensures block { block.new.items ≡ take (length block.new.items) self.old }
+        ensures left { self.new ≡ drop (length block.new.items) self.old }
+        ensures none { block.new.items ≡ [] → self.old ≡ [] }
     {
-        let in_front = count.min(self.front.len());
-        let (first, others) = room.split_at_mut(in_front);
-        self.front.take(in_front, first);
-        if in_front < count {
-            self.front.begin_with(&mut self.back);
-            self.front.take(count - in_front, others);
-        }
+        block.clear();
+        give_room_back(block);
+        mem::swap(&mut self.front, block);
+        mem::swap(&mut self.front, &mut self.back);
+    }
+}
+
+/// Puts what stands around the text in this room, as this framing writes it: its head in front, and its end behind it.
+fn put_around(front: &mut Vec<u8>, framing: Framing, room: &mut Vec<u8>) -> Result<(), AllocError>
+    ensures ok { OnOk result (front.new.items ++ room.new.items ≡ front.old.items ++ framed framing room.old.items) }
+    ensures err { OnErr result (front.new.items ≡ front.old.items) }
+{
+    match framing {
+        Framing::Frames => put_head(front, room.len())?,
+        Framing::Lines => room.push(b'\n')?,
+        Framing::Contents => {}
+    }
+    Ok(())
+}
+
+/// Moves these bytes behind those in front, where nothing was moved yet.
+fn move_behind(front: &mut Vec<u8>, back: &mut Vec<u8>, bytes: &mut Vec<u8>)
+    requires { back.old.items ≡ [] }
+    ensures all { front.new.items ++ back.new.items ≡ front.old.items ++ bytes.old.items }
+    ensures none { front.new.items ≡ [] → back.new.items ≡ [] }
+{
+    if front.is_empty() {
+        mem::swap(front, bytes);
+    } else {
+        mem::swap(back, bytes);
+    }
+}
+
+/// Puts the text behind the bytes, as this framing writes it.
+#[inline(always)]
+fn put_text(bytes: &mut Vec<u8>, framing: Framing, text: &[u8]) -> Result<(), AllocError>
+    ensures ok { OnOk result (bytes.new.items ≡ bytes.old.items ++ framed framing text.now) }
+    ensures err { OnErr result (bytes.new.items ≡ bytes.old.items) }
+{
+    match framing {
+        Framing::Frames => put_frame(bytes, text),
+        Framing::Lines => put_line(bytes, text),
+        Framing::Contents => bytes.extend_from_slice(text),
+    }
+}
+
+fn put_line(bytes: &mut Vec<u8>, text: &[u8]) -> Result<(), AllocError>
+    ensures ok { OnOk result (bytes.new.items ≡ bytes.old.items ++ text.now ++ 10 ∷ []) }
+    ensures err { OnErr result (bytes.new.items ≡ bytes.old.items) }
+{
+    // Room for both at once is just that, where a text without room for its LF would take twice as much. And so no text
+    // stays without its LF.
+    bytes.reserve(text.len().saturating_add(1))?;
+    bytes.extend_from_slice(text)?;
+    bytes.push(b'\n')?;
+    Ok(())
+}
+
+/// Gives memory back where less than a quarter is in use. What is left stays where it is if no smaller memory is to be had.
+fn give_room_back(bytes: &mut Vec<u8>)
+    ensures { bytes.new.items ≡ bytes.old.items }
+{
+    let room = bytes.capacity();
+    if room > KEPT_ROOM && room / 4 > bytes.len() {
+        bytes.shrink_to((2 * bytes.len()).max(KEPT_ROOM));
     }
 }

@@ -5,7 +5,6 @@ mod bytes_left;
 mod law;
 mod mark;
 mod outbox;
-mod stretch;
 
 pub use law::bytes_follow_one_another;
 pub use mark::Mark;

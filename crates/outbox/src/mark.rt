@@ -6,10 +6,10 @@ use std::marker::Model;
 #[derive(Drop)]
 pub struct Mark {
     pub(crate) framing: Framing,
-    /// How many bytes weren't taken.
+    /// In Frames and Lines, how many bytes weren't taken.
     pub(crate) byte_count: usize,
-    /// How many lengths of texts were kept.
-    pub(crate) length_count: usize,
+    /// In Contents, how many texts weren't taken.
+    pub(crate) text_count: usize,
     pub(crate) log: GhostLog,
 }
 
@@ -27,5 +27,5 @@ impl Model for Mark {
     } };
 
     ghost invariant = { λ a.
-        IsMarked a.framing a.log.texts a.log.taken a.byte_count a.length_count };
+        IsMarked a.framing a.log.texts a.log.taken a.byte_count a.text_count };
 }

@@ -1,24 +1,27 @@
-ghost use Rattle.std.specs.Prelude.{◌≡◌, ◌≢◌, ◌↔◌, ◌≤◌, ◌++◌, ◌∷◌, [], length, drop, IsTrue, OnOk, OnErr};
-ghost use Rattle.outbox.specs.Inner.{lengths_of};
+ghost use Rattle.std.specs.Prelude.{◌≡◌, ◌≢◌, ◌↔◌, ◌≤◌, ◌++◌, ◌∷◌, [], length, IsTrue, OnOk, OnErr, IfOk};
 
-use crate::bytes_left::BytesLeft;
+use crate::bytes_left::{BytesLeft, MOST_COPIED};
 use crate::mark::Mark;
 use content_streams::Framing;
 use ghost_log::GhostLog;
+use json_values::Items;
 use std::alloc::{AllocError, Global};
 use std::collections::VecDeque;
 use std::marker::Model;
+use std::mem;
 
-/// Room for so many lengths is kept, however few texts are left.
-const KEPT_LENGTHS: usize = 64;
+/// Room for so many texts is kept, however few are left.
+const KEPT_TEXTS: usize = 64;
 
 /// What a connection has written, and its host hasn't taken yet.
 #[derive(Drop)]
 pub struct Outbox {
+    alloc: Global,
     framing: Framing,
+    /// In Frames and Lines, what isn't taken.
     bytes: BytesLeft,
-    /// In Contents, the lengths of the texts that aren't taken.
-    lengths: VecDeque<usize>,
+    /// In Contents, the texts that aren't taken, each by itself.
+    texts: VecDeque<Items<u8>>,
     log: GhostLog,
 }
 
@@ -36,7 +39,7 @@ impl Model for Outbox {
     } };
 
     ghost invariant = { λ a.
-        IsKept a.framing a.log.texts a.log.taken a.bytes a.lengths.items };
+        IsKept a.framing a.log.texts a.log.taken a.bytes a.texts.items };
 }
 
 impl Outbox {
@@ -47,9 +50,10 @@ impl Outbox {
         ensures { result ≡ record { framing = framing; written = []; taken = 0 } }
     {
         Outbox {
+            alloc,
             framing,
             bytes: BytesLeft::new(alloc),
-            lengths: VecDeque::new(alloc),
+            texts: VecDeque::new(alloc),
             log: GhostLog::new(),
         }
     }
@@ -59,18 +63,31 @@ impl Outbox {
         ensures ok { OnOk result (self.new ≡ with_text text.now self.old) }
         ensures err { OnErr result (self.new ≡ self.old) }
     {
-        let before = self.bytes.len();
-        self.bytes.put(self.framing, text)?;
-        match put_length(&mut self.lengths, self.framing, text) {
-            Ok(()) => {
-                self.log = self.log.with_text(text);
-                Ok(())
-            }
-            Err(refused) => {
-                self.bytes.truncate(before);
-                Err(refused)
-            }
+        match self.framing {
+            Framing::Frames | Framing::Lines => self.put_in_stream(text),
+            Framing::Contents => self.put_alone(copy_of(self.alloc, text)?),
         }
+    }
+
+    fn put_in_stream(&mut self, text: &[u8]) -> Result<(), AllocError>
+        requires { self.old.framing ≢ Framing.Contents }
+        ensures ok { OnOk result (self.new ≡ with_text text.now self.old) }
+        ensures err { OnErr result (self.new ≡ self.old) }
+    {
+        self.bytes.put(self.framing, text)?;
+        self.log = self.log.with_text(text);
+        Ok(())
+    }
+
+    fn put_alone(&mut self, text: Vec<u8>) -> Result<(), AllocError>
+        requires { self.old.framing ≡ Framing.Contents }
+        ensures ok { OnOk result (self.new ≡ with_text text.items self.old) }
+        ensures err { OnErr result (self.new ≡ self.old) }
+    {
+        let log = self.log.with_text(text.as_slice());
+        put_behind(&mut self.texts, text)?;
+        self.log = log;
+        Ok(())
     }
 
     /// Writes the text in this room. What is in the room then has no meaning. A long text is moved, and not copied, unless
@@ -79,19 +96,21 @@ impl Outbox {
         ensures ok { OnOk result (self.new ≡ with_text room.old.items self.old) }
         ensures err { OnErr result (self.new ≡ self.old) }
     {
-        let count = self.lengths.len();
-        let log = self.log.with_text(room.as_slice());
-        put_length(&mut self.lengths, self.framing, room.as_slice())?;
-        match self.bytes.put_from(self.framing, room) {
-            Ok(()) => {
-                self.log = log;
-                Ok(())
-            }
-            Err(refused) => {
-                self.lengths.truncate(count);
-                Err(refused)
-            }
+        match self.framing {
+            Framing::Frames | Framing::Lines => self.move_to_stream(room),
+            Framing::Contents => self.put_alone(own_of(self.alloc, room)?),
         }
+    }
+
+    fn move_to_stream(&mut self, room: &mut Vec<u8>) -> Result<(), AllocError>
+        requires { self.old.framing ≢ Framing.Contents }
+        ensures ok { OnOk result (self.new ≡ with_text room.old.items self.old) }
+        ensures err { OnErr result (self.new ≡ self.old) }
+    {
+        let log = self.log.with_text(room.as_slice());
+        self.bytes.put_from(self.framing, room)?;
+        self.log = log;
+        Ok(())
     }
 
     /// Where the outbox stands, for `back_to`. Takes no memory.
@@ -101,7 +120,7 @@ impl Outbox {
         Mark {
             framing: self.framing,
             byte_count: self.bytes.len(),
-            length_count: self.lengths.len(),
+            text_count: self.texts.len(),
             log: self.log.again(),
         }
     }
@@ -112,8 +131,8 @@ impl Outbox {
         ensures { self.new ≡ mark }
     {
         self.bytes.truncate(mark.byte_count);
-        self.lengths.truncate(mark.length_count);
-        give_lengths_back(&mut self.lengths);
+        self.texts.truncate(mark.text_count);
+        give_room_back(&mut self.texts);
         self.log = mark.log;
     }
 
@@ -124,50 +143,43 @@ impl Outbox {
     {
         match self.framing {
             Framing::Frames | Framing::Lines => self.bytes.len(),
-            Framing::Contents => self.lengths.front().copied().unwrap_or(0),
+            Framing::Contents => match self.texts.front() {
+                Some(text) => text.len(),
+                None => 0,
+            },
         }
     }
 
-    /// Takes the next bytes, as many as there is room for; in Contents the next text, or nothing where it doesn't fit.
-    /// They are put to the front of the room, and counted. Takes no memory.
-    pub fn take(&mut self, room: &mut [u8]) -> usize
-        ensures count { result ≡ length (given_of self.old (length room.old)) }
-        ensures room { room.new ≡ given_of self.old (length room.old) ++ drop result room.old }
-        ensures state { self.new ≡ after_take (length room.old) self.old }
+    /// Moves what is to be written next to this block, in place of what that had: the first bytes, none only where there
+    /// are none; in Contents the next text. No byte is copied. Takes no memory.
+    pub fn take(&mut self, block: &mut Vec<u8>)
+        ensures block { block.new.items ≡ given_of self.old (length block.new.items) }
+        ensures state { self.new ≡ after_take (length block.new.items) self.old }
+        ensures none { block.new.items ≡ [] → next_of self.old ≡ [] }
     {
         match self.framing {
-            Framing::Frames | Framing::Lines => self.take_bytes(room),
-            Framing::Contents => self.take_text(room),
+            Framing::Frames | Framing::Lines => {
+                self.bytes.take(block);
+                self.log = self.log.with_taken(block.len());
+            }
+            Framing::Contents => self.take_text(block),
         }
     }
 
-    fn take_bytes(&mut self, room: &mut [u8]) -> usize
-        requires { self.old.framing ≢ Framing.Contents }
-        ensures count { result ≡ length (given_of self.old (length room.old)) }
-        ensures room { room.new ≡ given_of self.old (length room.old) ++ drop result room.old }
-        ensures state { self.new ≡ after_take (length room.old) self.old }
-    {
-        let count = self.bytes.len().min(room.len());
-        self.bytes.take(count, room);
-        self.log = self.log.with_taken(count);
-        count
-    }
-
-    fn take_text(&mut self, room: &mut [u8]) -> usize
+    fn take_text(&mut self, block: &mut Vec<u8>)
         requires { self.old.framing ≡ Framing.Contents }
-        ensures count { result ≡ length (given_of self.old (length room.old)) }
-        ensures room { room.new ≡ given_of self.old (length room.old) ++ drop result room.old }
-        ensures state { self.new ≡ after_take (length room.old) self.old }
+        ensures block { block.new.items ≡ given_of self.old (length block.new.items) }
+        ensures state { self.new ≡ after_take (length block.new.items) self.old }
+        ensures none { block.new.items ≡ [] → next_of self.old ≡ [] }
     {
-        let count = match self.lengths.front() {
-            Some(count) if *count <= room.len() => *count,
-            _ => return 0,
-        };
-        self.bytes.take(count, room);
-        self.lengths.pop_front();
-        give_lengths_back(&mut self.lengths);
-        self.log = self.log.with_taken(1);
-        count
+        match self.texts.pop_front() {
+            Some(text) => {
+                *block = text.into_vec();
+                self.log = self.log.with_taken(1);
+            }
+            None => *block = Vec::new(self.alloc),
+        }
+        give_room_back(&mut self.texts);
     }
 
     /// Whether all that was written was taken.
@@ -176,33 +188,46 @@ impl Outbox {
     {
         match self.framing {
             Framing::Frames | Framing::Lines => self.bytes.len() == 0,
-            Framing::Contents => self.lengths.is_empty(),
+            Framing::Contents => self.texts.is_empty(),
         }
     }
 }
 
-/// In Contents, puts the length of the text behind the others.
-fn put_length(
-    lengths: &mut VecDeque<usize>,
-    framing: Framing,
-    text: &[u8],
-) -> Result<(), AllocError>
-    ensures ok { OnOk result (lengths.new.items ≡
-        lengths.old.items ++ lengths_of framing (text.now ∷ [])) }
-    ensures err { OnErr result (lengths.new.items ≡ lengths.old.items) }
+/// Puts the text behind the others.
+fn put_behind(texts: &mut VecDeque<Items<u8>>, text: Vec<u8>) -> Result<(), AllocError>
+    ensures ok { OnOk result (texts.new.items ≡ texts.old.items ++ text.items ∷ []) }
+    ensures err { OnErr result (texts.new.items ≡ texts.old.items) }
 {
-    if matches!(framing, Framing::Contents) {
-        lengths.push_back(text.len())?;
+    match texts.push_back(Items::from(text)) {
+        Ok(()) => Ok(()),
+        Err(_) => Err(AllocError),
     }
-    Ok(())
+}
+
+fn copy_of(alloc: Global, text: &[u8]) -> Result<Vec<u8>, AllocError>
+    ensures { IfOk result (λ own. own.items ≡ text.now) }
+{
+    let mut own = Vec::new(alloc);
+    own.extend_from_slice(text)?;
+    Ok(own)
+}
+
+/// The text in this room: itself where it is long, and else a copy.
+fn own_of(alloc: Global, room: &mut Vec<u8>) -> Result<Vec<u8>, AllocError>
+    ensures { IfOk result (λ own. own.items ≡ room.old.items) }
+{
+    if room.len() <= MOST_COPIED {
+        return copy_of(alloc, room.as_slice());
+    }
+    Ok(mem::replace(room, Vec::new(alloc)))
 }
 
 /// Gives memory back where less than a quarter is in use.
-fn give_lengths_back(lengths: &mut VecDeque<usize>)
-    ensures { lengths.new.items ≡ lengths.old.items }
+fn give_room_back(texts: &mut VecDeque<Items<u8>>)
+    ensures { texts.new.items ≡ texts.old.items }
 {
-    let room = lengths.capacity();
-    if room > KEPT_LENGTHS && room / 4 > lengths.len() {
-        lengths.shrink_to((2 * lengths.len()).max(KEPT_LENGTHS));
+    let room = texts.capacity();
+    if room > KEPT_TEXTS && room / 4 > texts.len() {
+        texts.shrink_to((2 * texts.len()).max(KEPT_TEXTS));
     }
 }

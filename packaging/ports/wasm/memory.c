@@ -1,8 +1,5 @@
 /* What the library and the addon take of C, for WebAssembly, where there is no C library: memory that grows, in blocks
- * of four sizes for each power of two, with a list of the free ones for each size.
- *
- * What a free block held stays as it was until memory is asked for again: its place in a list stands in front of it.
- * node.c tells of texts that lie in rooms which the addon has given back. */
+ * of four sizes for each power of two, with a list of the free ones for each size. */
 typedef unsigned long size_t;
 
 void *memset(void *to, int byte, size_t length);

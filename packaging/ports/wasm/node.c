@@ -2,15 +2,15 @@
  * before a call and reads from it behind one. So the addon's own code is what both have, and the module needs no
  * imports. bindings/node/lib/wasm.js is the other side of this.
  *
- * A text that is told lies where the addon had it, maybe in a room that it has given back: it is as it was until memory
- * is asked for again. */
+ * A text that is told lies where the addon had it, in a room of its own or where the library has lent it: it is as it
+ * was until the next call. */
 #include "addon.c"
 
 void *realloc(void *at, size_t size);
 
 /* What a value is. JavaScript knows these numbers. */
-enum { UNDEFINED, NUMBER, BOOLEAN, BIGINT, BYTES, WORDS, TEXT, ASCII, EXTERNAL, NUMBERS };
-enum { MOST_VALUES = 8, MOST_NUMBERS = 9, ROOMS = 4 };
+enum { UNDEFINED, NUMBER, BOOLEAN, BIGINT, BYTES, WORDS, TEXT, ASCII, EXTERNAL, NUMBERS, LIST };
+enum { MOST_VALUES = 8, MOST_LISTED = 9, ROOMS = 4 };
 
 /* A BigInt has its lower half in `at` and its upper one in `length`. */
 struct napi_value__ {
@@ -20,14 +20,13 @@ struct napi_value__ {
 
 /* What JavaScript reads and writes. */
 static struct {
-    struct napi_value__ given[MOST_VALUES], made;
-    double numbers[MOST_NUMBERS];
+    struct napi_value__ given[MOST_VALUES], made, listed[MOST_LISTED];
     /* of an error: where its code and its text are, or 0 */
     uint32_t error_code, error_text;
 } here;
 
 static shared *instance;
-static struct napi_value__ one_number;
+static struct napi_value__ one_number, list;
 
 static uint32_t place_in_memory(const void *at)
 {
@@ -116,14 +115,16 @@ napi_status napi_set_named_property(napi_env env, napi_value object, const char 
 
 napi_status napi_create_array_with_length(napi_env env, size_t length, napi_value *made)
 {
-    return made_as(made, NUMBERS, here.numbers, length);
+    list = (struct napi_value__){.kind = LIST, .at = place_in_memory(here.listed), .length = (uint32_t)length};
+    *made = &list;
+    return napi_ok;
 }
 
 napi_status napi_set_element(napi_env env, napi_value array, uint32_t at, napi_value value)
 {
-    if (at >= MOST_NUMBERS)
+    if (at >= MOST_LISTED)
         return napi_invalid_arg;
-    here.numbers[at] = value->number;
+    here.listed[at] = *value;
     return napi_ok;
 }
 
@@ -250,7 +251,6 @@ CALLED("heads", heads)
 CALLED("feed", feed)
 CALLED("fed", fed)
 CALLED("events", events)
-CALLED("next", next)
 CALLED("end", end)
 CALLED("say", say)
 CALLED("take", take)
@@ -259,7 +259,6 @@ CALLED("callBatch", call_batch)
 CALLED("counts", counts)
 CALLED("pending", pending)
 CALLED("isDone", is_done)
-CALLED("has", has)
 CALLED("faultAt", fault_at)
 
 /* Begins; gives where values lie, or 0 where memory was refused. What was made is the array of what is said. */

@@ -37,18 +37,20 @@ fn constants() -> BTreeMap<String, i64> {
     found
 }
 
-/// How C lays a struct of the header out, since each field is a number and lies at a multiple of its size.
+/// How C lays a struct of the header out, since each field is a number or a pointer and lies at a multiple of its size.
 fn laid_out_in_c(name: &str) -> (Vec<Field>, usize) {
     let text = header();
     let body = text.split("typedef struct {").find(|it| it.contains(&format!("}} {name};"))).expect("the struct");
     let (mut fields, mut end, mut widest) = (Vec::new(), 0_usize, 1);
     for line in body.split('}').next().expect("its fields").split(';').map(str::trim).filter(|it| !it.is_empty()) {
-        let (kind, field) = line.split_once(' ').expect("a type and a name");
+        let (kind, field) = line.rsplit_once(' ').expect("a type and a name");
         let size = match kind {
             "uint32_t" | "int32_t" => 4,
             "uint64_t" | "int64_t" | "size_t" => 8,
+            "const uint8_t" if field.starts_with('*') => 8,
             _ => panic!("{kind}"),
         };
+        let field = field.trim_start_matches('*');
         let place = (end + size - 1) / size * size;
         fields.push((field.to_string(), place, size));
         end = place + size;
@@ -59,7 +61,8 @@ fn laid_out_in_c(name: &str) -> (Vec<Field>, usize) {
 
 macro_rules! assert_laid_out {
     ($kind:ident: $($field:ident)*) => {{
-        let it = $kind::default();
+        // SAFETY: its fields are numbers and pointers, which may be zero.
+        let it: $kind = unsafe { std::mem::zeroed() };
         let start = std::ptr::addr_of!(it) as usize;
         let fields = vec![$((
             stringify!($field).to_string(),
@@ -73,13 +76,10 @@ macro_rules! assert_laid_out {
 
 #[test]
 fn structs_lie_as_in_the_header() {
-    assert_laid_out!(bm_settings: framing order takes_cancels content calls);
     assert_laid_out!(bm_options: size framing order cancels broken content calls entries null_params);
-    assert_laid_out!(bm_event: kind flags number key code name_len text_len id_len);
+    assert_laid_out!(bm_event: kind flags number key code name_len text_len id_len name text id);
     assert_laid_out!(bm_report: calls requests open waiting own_calls answers_written unreadable invalid ignored);
-    assert_laid_out!(bm_told: count stopped used needed pending);
     assert_laid_out!(bm_saying: kind said number key code name_len text_len calls);
-    assert_laid_out!(bm_said: refused taken pending);
     assert_laid_out!(bm_judge_options: size rules framing content ids);
     assert_laid_out!(bm_finding: side rule level whose number offset entry);
     assert_eq!(size_of::<bm_connection>(), size_of::<*mut c_void>());
@@ -94,8 +94,7 @@ macro_rules! named {
 fn constants_are_those_of_the_header() {
     let ours = named!(
         BM_INTERFACE
-        BM_OK BM_NO_MEMORY BM_NOT_OPEN BM_NOT_WAITING BM_OVER BM_NOT_JSON BM_NOT_TEXT BM_SMALL BM_SETTINGS BM_EMPTY
-        BM_FULL
+        BM_OK BM_NO_MEMORY BM_NOT_OPEN BM_NOT_WAITING BM_OVER BM_NOT_JSON BM_NOT_TEXT BM_SETTINGS BM_EMPTY BM_FULL
         BM_FRAMES BM_LINES BM_CONTENTS
         BM_AS_ANSWERED BM_AS_CAME
         BM_CANCELS_NONE BM_CANCELS_LSP BM_CANCELS_MCP
@@ -104,8 +103,6 @@ fn constants_are_those_of_the_header() {
         BM_REQUEST BM_ERROR BM_UNREADABLE BM_INVALID
         BM_OVER_CLEAN BM_OVER_BAD_HEAD BM_OVER_BAD_LENGTH BM_OVER_TWO_LENGTHS BM_OVER_TOO_LARGE BM_OVER_NO_LENGTH
         BM_OVER_HEAD_TOO_LONG BM_OVER_TRUNCATED BM_OVER_READ BM_OVER_CALLS
-        BM_HAS_TOGETHER BM_HAS_OPEN BM_HAS_JUDGE
-        BM_STOP_NONE BM_STOP_ROOM BM_STOP_MOST BM_STOP_NO_MEMORY
         BM_SAY_ANSWER BM_SAY_FAIL BM_SAY_CLOSE BM_SAY_CALL BM_SAY_BATCH BM_SAY_NOTIFY BM_SAY_WITHDRAW BM_SAY_CANCEL
         BM_RULES_JSONRPC BM_RULES_LSP BM_RULES_MCP BM_RULES_MCP_2025_03_26
         BM_CLIENT BM_SERVER BM_MUST BM_SHOULD BM_NOTE
@@ -123,5 +120,4 @@ fn constants_are_those_of_the_header() {
 #[test]
 fn the_library_has_the_interface_of_the_header() {
     assert_eq!(unsafe { bm_interface() }, BM_INTERFACE);
-    assert!(unsafe { bm_has(BM_HAS_TOGETHER) && bm_has(BM_HAS_OPEN) && bm_has(BM_HAS_JUDGE) });
 }

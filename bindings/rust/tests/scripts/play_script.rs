@@ -249,11 +249,7 @@ fn act(connection: &mut Connection, action: &str, mut words: Words) -> String {
         }
         "cancel" => said(connection.cancel(words.number())),
         "take" => {
-            // (no more than there is, so that a script may ask for a room of 2^40 bytes)
-            let size = words.number().min(connection.pending() as u64);
-            let mut room = vec![0; size as usize];
-            let count = connection.take(&mut room);
-            format!("bytes {}", hex(&room[..count]))
+            format!("bytes {}", hex(take(connection, words.number())))
         }
         "pending" => format!("pending {}", connection.pending()),
         "is_done" => connection.is_done().to_string(),
@@ -268,6 +264,23 @@ fn act(connection: &mut Connection, action: &str, mut words: Words) -> String {
     };
     words.end();
     said
+}
+
+/// At most so many bytes of what is to be written: none of a text that has more.
+fn take(connection: &mut Connection, most: u64) -> Vec<u8> {
+    let most = most.min(connection.pending() as u64) as usize;
+    let mut taken = Vec::new();
+    while taken.len() < most {
+        let piece = connection.output();
+        let count = piece.len().min(most - taken.len());
+        let end = taken.len();
+        taken.extend_from_slice(&piece[..count]);
+        if connection.written(count).is_err() {
+            taken.truncate(end);
+            break;
+        }
+    }
+    taken
 }
 
 fn main() -> io::Result<()> {

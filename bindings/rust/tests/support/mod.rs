@@ -12,7 +12,7 @@ pub fn feed(connection: &mut Connection, content: &str) {
 }
 
 pub fn events(connection: &mut Connection) -> Vec<Event> {
-    connection.events().expect("memory").collect()
+    connection.events().expect("memory")
 }
 
 /// The lines that are to be written.

@@ -1,9 +1,12 @@
-//! What a drain hands on: the sink of a session is flushed once where a drain has written something, and else not.
+//! What a drain hands on: the sink of a session is flushed once where a drain has written something, and else not. However much
+//! is due, one drain writes it.
 
 use super::{METHODS, frame, table};
-use lsp_frames::StdSink;
+use job_slots::Turns;
+use lsp_frames::{Frame, StdSink};
 use method_steps::Table;
 use peer_session::{Limits, Session};
+use rpc_peer::Framing;
 use std::alloc::{AllocError, Global};
 use std::io::{self, Write};
 use std::process::Abort;
@@ -83,4 +86,88 @@ fn a_drain_flushes_what_it_has_written(rt: HostRuntime) -> Result<(), Fail> {
     let done = by_a_session(&rt, rt.alloc(), &table);
     drop(table);
     Ok(done?)
+}
+
+/// So many answers and so many calls are due at once.
+const DUE: u32 = 1_001;
+
+/// Is answered at once, with 77 bytes.
+const UNKNOWN: &str = r#"{"jsonrpc":"2.0","method":"nope","id":1}"#;
+
+/// Its handler makes a call as it is turned, of 65 bytes where its number has four figures.
+const ASK: &str = r#"{"jsonrpc":"2.0","method":"ask","params":["x"],"id":7}"#;
+
+/// The bytes of all that is due, in each framing: in frames each text has a head of 22 bytes, in lines an LF.
+const WHOLE: &[(Framing, usize)] = &[(Framing::Frames, 186_186), (Framing::Lines, 144_144)];
+
+fn takes_all(session: &mut Session<'_>, frame: &Frame) -> Result<bool, AllocError> {
+    for _ in 0..DUE {
+        if !session.is_open() {
+            return Ok(false);
+        }
+        session.take(frame)?;
+    }
+    Ok(true)
+}
+
+/// Turns so many handlers, the first of those that are ready each time.
+fn turns_all(session: &mut Session<'_>) -> bool {
+    for _ in 0..DUE {
+        let Some(mut job) = session.next_job(0) else {
+            return false;
+        };
+        job.turn();
+        session.back(job);
+    }
+    true
+}
+
+/// Whether one drain writes all answers and calls, and flushes once.
+fn is_drained_at_once(
+    alloc: Global,
+    session: &mut Session<'_>,
+    framing: Framing,
+    bytes: usize,
+) -> Result<bool, AllocError> {
+    let is_taken = takes_all(session, &frame(alloc, UNKNOWN)?)?
+        && takes_all(session, &frame(alloc, ASK)?)?
+        && turns_all(session);
+    let mut counter = Counter {
+        bytes: 0,
+        flushes: 0,
+        handed_on: 0,
+    };
+    let is_written = session
+        .drain_in(framing, &mut StdSink::new(&mut counter))
+        .is_ok();
+    let report = session.report();
+    Ok(
+        is_taken
+            && is_written
+            && (counter.bytes, counter.flushes, counter.handed_on) == (bytes, 1, bytes)
+            && (report.answers, report.messages) == (u64::from(DUE), u64::from(DUE)),
+    )
+}
+
+fn by_a_new_session(
+    alloc: Global,
+    table: &Table,
+    framing: Framing,
+    bytes: usize,
+) -> Result<bool, AllocError> {
+    let mut session = Session::new(alloc, table, Limits::standard())?;
+    let is_drained = is_drained_at_once(alloc, &mut session, framing, bytes);
+    drop(session);
+    is_drained
+}
+
+#[test]
+fn a_drain_writes_all_that_is_due(rt: HostRuntime) -> Result<(), Fail> {
+    let table = table(rt.alloc(), METHODS)?;
+    for (framing, bytes) in WHOLE {
+        let is_drained = by_a_new_session(rt.alloc(), &table, *framing, *bytes);
+        assert!(rt; is_drained?, "{bytes}");
+    }
+    drop(table);
+    Ok(())
 }

@@ -8,7 +8,7 @@ use Rattle.std.proofs.Crossing as heap
 use Rattle.std.proofs.alloc.Global.TheSendSync as global
 use Rattle.std_alloc.proofs.SendSync.{lies, quiet}
 use Rattle.bullmyrtle.specs.Held.{held_row as C}
-use Rattle.host_calls.proofs.outlet.Outlet.TheSendSync.{the_send as value}
+use Rattle.host_calls.proofs.hosted.HostedConnection.TheSendSync.{the_send as value}
 use Rattle.bullmyrtle.specs.contracts.handle.Handle.{the_row, the_type}
 
 pub send : IsSend the_row
