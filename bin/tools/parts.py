@@ -26,8 +26,7 @@ WITHOUT_CLOCK = {
 }
 
 
-# The script that takes longest. It has a clock, for a page and for Node.js, and runs beside the last of what has one, or
-# of what has none.
+# The script that takes longest.
 LONGEST = "ports"
 
 

@@ -3,6 +3,7 @@ from __future__ import annotations
 
 import os
 import re
+import signal
 import subprocess
 import sys
 import threading
@@ -15,6 +16,9 @@ from tools.repository import TOP
 TALLY = re.compile(r"(\d+) passed, (\d+) failed\s*")
 SKIPPED = "SKIPPED: "
 SHOWN = 10
+# So many minutes a part may take at most. What waits for something that never comes would else keep the whole run from its
+# end, and nobody would know where.
+MINUTES = 170
 # How a line begins, or what it has in it, that tells a failure; and how many of them the end has of a part.
 TELLS_FAILURE = re.compile(r"(FAILED|ERROR|FAIL|BAD)\b|E   ")
 REPEATED, INDENT = 12, " " * 4
@@ -22,13 +26,14 @@ REPEATED, INDENT = 12, " " * 4
 
 class Part(NamedTuple):
     """A command of the test. One that tallies ends with the line 'N passed, M failed', and passes at least so many;
-    another counts by its status."""
+    another counts by its status. One that takes longer than its minutes is ended."""
 
     name: str
     words: List[str]
     folder: str = TOP
     tallies: bool = True
     least: int = 0
+    minutes: float = MINUTES
 
 
 def tally(part: Part, status: int, lines: list[str]) -> tuple[int, int]:
@@ -49,6 +54,30 @@ def told_last(lines: list[str]) -> list[str]:
     return [f"{INDENT}{it.rstrip()[:300]}" for it in (telling or lines)[-REPEATED:]]
 
 
+def running(session: int) -> dict[int, str]:
+    """The processes of a session, with their command lines."""
+    found = {}
+    for it in filter(str.isdigit, os.listdir("/proc")):
+        try:
+            if os.getsid(int(it)) == session:
+                with open(f"/proc/{it}/cmdline", encoding="utf-8", errors="replace") as words:
+                    found[int(it)] = words.read().replace("\0", " ").strip()
+        except OSError:  # (it has ended meanwhile)
+            pass
+    return found
+
+
+def end_session(session: int) -> list[str]:
+    """Ends all processes of a session, and gives their command lines."""
+    found = running(session)
+    for it in found:
+        try:
+            os.kill(it, signal.SIGKILL)
+        except ProcessLookupError:
+            pass
+    return sorted({it for it in found.values() if it})
+
+
 class Report:
     def __init__(self, has_table: bool = True) -> None:
         self.has_table = has_table
@@ -57,6 +86,14 @@ class Report:
         self.fallen: list[str] = []
         self.seconds: dict[str, float] = {}
         self.printing, self.begun = threading.Lock(), time.monotonic()
+        self.sessions: set[int] = set()
+        # (each part has a session of its own, which a terminal's interrupt doesn't reach)
+        signal.signal(signal.SIGINT, self.interrupted)
+
+    def interrupted(self, *_: object) -> None:
+        for it in [*self.sessions]:
+            end_session(it)
+        os._exit(130)
 
     def say(self, text: str) -> None:
         with self.printing:
@@ -79,14 +116,27 @@ class Report:
         if is_shown_at_once:
             self.say(part.name)
         how: dict[str, Any] = {"stdin": subprocess.DEVNULL, "stdout": subprocess.PIPE, "stderr": subprocess.STDOUT}
+        how["start_new_session"] = True
+        late: list[str] = []
         with subprocess.Popen(part.words, cwd=part.folder, errors="replace", **how) as process:
+            self.sessions.add(process.pid)
+            limit = threading.Timer(part.minutes * 60, lambda: late.extend(end_session(process.pid)))
+            limit.daemon = True
+            limit.start()
             for line in process.stdout or ():
                 lines.append(line)
                 if is_shown_at_once:
                     with self.printing:
                         sys.stdout.write(line)
                         sys.stdout.flush()
-        return self.ended(part, process.returncode, lines, time.monotonic() - begun, is_shown_at_once)
+        limit.cancel()
+        self.sessions.discard(process.pid)
+        lines += [
+            f"FAILED: it was ended after {part.minutes:g} minutes, in which this still ran: {it}\n" for it in late
+        ]
+        return self.ended(
+            part, process.returncode or int(bool(late)), lines, time.monotonic() - begun, is_shown_at_once
+        )
 
     def ended(self, part: Part, status: int, lines: list[str], seconds: float, was_shown: bool) -> bool:
         passed, failed = tally(part, status, lines)
