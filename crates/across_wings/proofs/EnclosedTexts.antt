@@ -16,13 +16,13 @@ use Rattle.peer_output.specs.Output.{IsOutput, IsPartialOutput}
 use Rattle.rpc_messages.specs.Dues.{Due, SeenAnswer, text_of, unit_text, unit_answers, unit_kind, unit_requests, unit_dues, due_if, dues}
 use Rattle.rpc_messages.specs.Key.{key_text}
 use Rattle.rpc_messages.specs.Numbering.{unit_numbers}
-use Rattle.rpc_messages.specs.Texts.{answer_of, answer_text_of, batch_text_of, calls_of, error_data, id_data, method_members, standard_error, versioned}
+use Rattle.rpc_messages.specs.Texts.{answer_text_of, batch_text_of, calls_of, error_data, id_data, method_members, standard_error, versioned}
 use Rattle.rpc_messages.specs.Unit.{SeenUnit}
 use Rattle.rpc_messages.specs.declared.kind.Kind.{Kind}
 use Rattle.rpc_messages.specs.declared.kind.Kind.TheVariants.{Single, Batch}
 use Rattle.rpc_messages.specs.declared.reply.Reply.{Reply}
 use Rattle.rpc_messages.specs.declared.reply.Reply.TheVariants.{Done, Error, Standard as Fixed}
-use Rattle.serde_json.specs.Data.{Data, array, object, string, Items, no_items, item, Members, no_members, member}
+use Rattle.serde_json.specs.Data.{array, object, string, Items, no_items, item, Members, no_members, member}
 use Rattle.serde_json.specs.View.{items_of}
 use Rattle.serde_json.specs.Written.{comma_if, compact_text, items_text, members_text}
 use Rattle.across_wings.specs.Enclosed.{IsEnclosed}
@@ -93,7 +93,7 @@ sending-is n (message m) = message-is n m
 sending-is n (withdrawal t) =
     object-is (versioned (method_members (record { method = codes "$/cancelRequest"; params = Some (object (member (codes "id") (string (key_text n t)) no_members)) })))
 
-abbrev ItemIs : Item → Type 0
+abbrev pub ItemIs : Item → Type 0
 ItemIs it = IsEnclosed (item_text it)
 
 items-are : (items : List Item) → All DueIs (answers_in items) → All ItemIs items

@@ -1,4 +1,6 @@
+mod CameItems
 mod EnclosedTexts
+mod FramesRead
 mod Items
-mod ItemsRead
+mod LinesRead
 mod Texts

@@ -1,4 +1,4 @@
-use Rattle.across_wings.proofs.ItemsRead.{FrameLaws, reads-items, reads-all}
+use Rattle.across_wings.proofs.FramesRead.{reads-items, reads-all}
 use Rattle.across_wings.proofs.served.a_connection_reads_the_items_that_were_served.Goals as goal
 
 pub returns-clause-reads : goal.returns-clause-reads

@@ -1,60 +1,26 @@
 -- The frames of items are their texts, and the units that come to a connection are what these are read as.
-use Rattle.std.proofs.Common.{◌≡◌, ℕ, zero, suc, ◌+◌, ◌<◌, ◌≤◌, false, List, [], ◌∷◌, ◌++◌, All, map, take, drop, length, Option, Some, None, refl, sym, ap, subst, ◌∙◌, append_assoc, append-nil, take-append-drop, arith}
+use Rattle.std.proofs.Common.{◌≡◌, ℕ, ◌≤◌, false, List, [], ◌∷◌, ◌++◌, All, map, length, Option, None, refl, sym, ap, subst, ◌∙◌, append-nil}
 use Rattle.std.proofs.lemmas.List.Elements.{All-head, All-tail}
-use Rattle.std.specs.Prelude.{slice_get}
-use Rattle.std.specs.List.{concat}
 use Rattle.lsp_frames.specs.Contents.{Standing, Open, IsContents}
-use Rattle.lsp_frames.specs.Frames.{Front, Whole, Less, front, written}
+use Rattle.lsp_frames.specs.Frames.{Whole, Less, front, written}
 use Rattle.lsp_frames.specs.Heads.{head_at, head_from}
 use Rattle.lsp_frames.specs.declared.frame.Frame.{Frame}
 use Rattle.lsp_frames.specs.declared.limits.TheConstants.{LONGEST_CONTENT}
-use Rattle.content_streams.specs.Streams.{contents_of, joined, plain}
+use Rattle.content_streams.specs.Streams.{contents_of, joined}
 use Rattle.content_streams.specs.declared.ending.HowEnded.{HowEnded}
 use Rattle.content_streams.specs.declared.framing.Framing.{Framing}
 use Rattle.content_streams.specs.declared.framing.Framing.TheVariants.{Frames}
-use Rattle.connection.specs.Connections.{Connection, StandsAfter, contents, next_content, read}
+use Rattle.connection.specs.Connections.{Connection, StandsAfter, contents, next_content}
 use Rattle.connection.specs.Settings.{rules_of}
 use Rattle.connection_history.specs.History.{History, units_of}
 use Rattle.connection_history.specs.declared.event.Event.{Event}
-use Rattle.connection_messages.specs.declared.unit.Unit.{Unit}
 use Rattle.peer_output.specs.Items.{Item, bytes_of, item_text}
 use Rattle.across_wings.specs.Served.{HasReadItems, IsFedItems, item_as_read}
-
--- ---- lists
-
-split-map : {X Y : Type 0} (f : X → Y) (xs ys : List Y) (zs : List X) → xs ++ ys ≡ map f zs → (front : List X) × (rest : List X) × (zs ≡ front ++ rest) × (xs ≡ map f front)
-split-map f [] ys zs same = ([], zs, refl, refl)
-split-map f (x ∷ xs) ys [] same = absurd (cc)
-split-map f (x ∷ xs) ys (z ∷ zs) same =
-    let cut = split-map f xs ys zs (cc) in
-    let head : x ≡ f z = cc in
-    (z ∷ cut.0, cut.1, ap (λ l. z ∷ l) cut.2, (λ i. head i ∷ cut.3 i))
-
-map-map : {X Y Z : Type 0} (f : X → Y) (g : Y → Z) (xs : List X) → map g (map f xs) ≡ map (λ x. g (f x)) xs
-map-map f g [] = refl
-map-map f g (x ∷ xs) = ap (λ l. g (f x) ∷ l) (map-map f g xs)
-
-take-past : {X : Type 0} (xs : List X) (n : ℕ) → slice_get xs n ≡ None → take n xs ≡ xs
-take-past [] zero h = refl
-take-past [] (suc n) h = refl
-take-past (x ∷ xs) zero h = absurd (cc)
-take-past (x ∷ xs) (suc n) h = ap (λ l. x ∷ l) (take-past xs n h)
-
-joined-one : (pieces : List (List ℕ)) (rest : List ℕ) → joined (pieces ++ rest ∷ []) ≡ joined pieces ++ rest
-joined-one [] rest = append-nil rest
-joined-one (piece ∷ pieces) rest = ap (λ l. piece ++ l) (joined-one pieces rest) ∙ sym (append_assoc piece (joined pieces) rest)
-
--- ---- frames
-
-abbrev text_frame : Item → Frame
-text_frame item = plain (item_text item)
+use Rattle.across_wings.proofs.CameItems.{Fits, joined-one, reads-first, reads-whole, text_frame}
 
 nothing-left : (limit : ℕ) → front limit [] ≡ Less
 unfolding front head_at head_from
 nothing-left limit = refl
-
-abbrev Fits : ℕ → Item → Type 0
-Fits limit item = length (item_text item) ≤ limit
 
 module _ (reads : (limit : ℕ) (content more : List ℕ) → length content ≤ limit → limit ≤ LONGEST_CONTENT →
     front limit (written content ++ more) ≡ Whole (record { content = content; foreign = false }) more) where
@@ -87,28 +53,15 @@ module _ (laws : FrameLaws) where
       (grow.0, sym grow.1 ∙ all-contents limit items (pieces ++ rest ∷ []) None (joined-one pieces rest ∙ fed) possible fits)
 
   module _ (c : Connection) (history : History) (told : List Event) (items : List Item) (stands : StandsAfter c history told) (fed : IsFedItems c items) where
-    abbrev its_rules : Frame → Unit
-    its_rules frame = read (rules_of c.settings) frame
-
     stream-contents : contents c ≡ contents_of Frames c.settings.content c.stream.pieces c.stream.ended
     stream-contents = λ i. contents_of ((stands.stream.framing ∙ fed.framing) i) (stands.stream.limit i) c.stream.pieces c.stream.ended
-
-    abbrev came : List Frame
-    came = take c.stream.taken (contents c)
-
-    units-read : (front : List Item) → came ≡ map text_frame front → units_of history ≡ map (item_as_read (rules_of c.settings)) front
-    units-read front is = stands.stream.came ∙ ap (map its_rules) is ∙ map-map text_frame its_rules front
 
     pub reads-items : HasReadItems c history items
     reads-items =
         let first = first-contents c.settings.content items c.stream.pieces fed.rest c.stream.ended fed.fed fed.possible fed.fits in
-        let split : came ++ (drop c.stream.taken (contents c) ++ first.0) ≡ map text_frame items =
-        sym (append_assoc came (drop c.stream.taken (contents c)) first.0) ∙ ap (λ frames. frames ++ first.0) (take-append-drop c.stream.taken (contents c) ∙ stream-contents) ∙ first.1 in
-        let parts = split-map text_frame came (drop c.stream.taken (contents c) ++ first.0) items split in
-        record { front = parts.0; rest = parts.1; whole = parts.2; read = units-read parts.0 parts.3 }
+        reads-first c history told items stands first.0 (ap (λ frames. frames ++ first.0) stream-contents ∙ first.1)
 
     pub reads-all : fed.rest ≡ [] → next_content c history ≡ None → units_of history ≡ map (item_as_read (rules_of c.settings)) items
     reads-all whole none =
         let bytes : joined c.stream.pieces ≡ bytes_of items = sym (append-nil (joined c.stream.pieces)) ∙ ap (λ rest. joined c.stream.pieces ++ rest) (sym whole) ∙ fed.fed in
-        let all : contents c ≡ map text_frame items = stream-contents ∙ all-contents c.settings.content items c.stream.pieces c.stream.ended bytes fed.possible fed.fits in
-        units-read items (take-past (contents c) c.stream.taken (ap (slice_get (contents c)) stands.stream.taken ∙ none) ∙ all)
+        reads-whole c history told items stands (stream-contents ∙ all-contents c.settings.content items c.stream.pieces c.stream.ended bytes fed.possible fed.fits) none
