@@ -1,6 +1,9 @@
 """What starts threads, many times in a row: each run ends by itself. The tests of job slots that have two workers pass,
 and of 10,000 jobs that four workers turn each comes home once, turned once. And a server whose client waits for each
-answer before its next request: no wake-up is lost, however soon its threads go to sleep."""
+answer before its next request: no wake-up is lost, however soon its threads go to sleep, and they look as often before
+that as they were told to."""
+import resource
+
 from support import ran
 
 # How often each test, and each hand-out of jobs, is run.
@@ -10,6 +13,8 @@ JOBS, ROUNDS = 10_000, 20_000
 # How many seconds the rounds may take: each waits for two threads to be woken, which other processes hold up; and one that
 # isn't woken waits for ever.
 PATIENCE = 900
+# Rounds in which the threads' sleeps are counted, and as many looks as a thread may make.
+FEW_ROUNDS, MOST_LOOKS = 2_000, 2**32 - 1
 
 count = ran.Count()
 
@@ -45,9 +50,29 @@ def check_wake_ups(bench: str) -> None:
             )
 
 
+def sleeps_of(bench: str, looks: int) -> tuple[int | str, int]:
+    """How a server of one worker ends whose threads look so often before they sleep, and how often they have slept."""
+    words = ["lockstep", "--rounds", str(FEW_ROUNDS), "--workers", "1", "--yields", str(looks)]
+    before = resource.getrusage(resource.RUSAGE_CHILDREN).ru_nvcsw
+    status, _ = ran.told_by([bench, *words], PATIENCE)
+    return status, resource.getrusage(resource.RUSAGE_CHILDREN).ru_nvcsw - before
+
+
+def check_patience(bench: str) -> None:
+    """The patience that a crew is given comes to its threads: without any the clerk and the worker sleep in each round,
+    three times in all, and with the greatest neither ever does."""
+    status, sleeps = sleeps_of(bench, 0)
+    count.check(
+        "threads without patience sleep in each round", status == 0 and sleeps >= FEW_ROUNDS, f"{status} {sleeps}"
+    )
+    status, sleeps = sleeps_of(bench, MOST_LOOKS)
+    count.check("threads that may look on don't sleep", status == 0 and sleeps < FEW_ROUNDS // 10, f"{status} {sleeps}")
+
+
 check_tests()
 BENCH = count.built("peer_bench", ran.gates_program("peer_bench"))
 if BENCH:
     check_jobs(BENCH)
     check_wake_ups(BENCH)
+    check_patience(BENCH)
 count.end()

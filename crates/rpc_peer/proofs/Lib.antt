@@ -2,8 +2,10 @@ pub mod Arriving
 pub mod Crossing
 pub mod Happenings
 pub mod Jobs
+pub mod Looks
 pub mod Outcomes
 pub mod Results
 pub mod Rings
 pub mod Sent
 pub mod Served
+pub mod Settling

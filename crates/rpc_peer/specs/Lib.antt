@@ -1,7 +1,10 @@
 pub mod Arriving
 pub mod Clerk
+pub mod Handles
 pub mod Inner
 pub mod Jobs
+pub mod Learning
+pub mod Moves
 pub mod Serve
 pub mod Serves
 pub mod Serving

@@ -1,5 +1,7 @@
 //! How the threads of a server wake each other, and how they learn that it has stopped.
 
+ghost use Rattle.std.specs.Prelude.{◌≡◌};
+
 use crossbeam_utils::sync::EventCount;
 use std::sync::atomic::{AtomicBool, Ordering};
 
@@ -26,7 +28,10 @@ pub struct Stopped {
 }
 
 impl Bells {
-    pub fn new(crew: u32) -> Bells {
+    /// The bells of so many workers.
+    pub fn new(crew: u32) -> Bells
+        ensures { result.crew ≡ crew }
+    {
         Bells {
             clerk: EventCount::new(),
             workers: EventCount::new(),

@@ -1,6 +1,10 @@
 //! The clerk: the owner of the session of a server.
 
-ghost use Rattle.job_slots.specs.Seats.{IsClerkOf};
+ghost use Rattle.std.specs.Prelude.{◌≤◌, IfOk, count_by, vec_len, vec_capacity};
+ghost use Rattle.job_slots.specs.declared.limits.TheConstants.{MOST_SLOTS};
+ghost use Rattle.job_slots.specs.Looks.{is_free};
+ghost use Rattle.job_slots.specs.Seats.{IsClerkOf, looks_of};
+ghost use Rattle.rpc_peer.specs.Handles.{AreHandlesOf};
 
 use crate::arrival::Arrival;
 use crate::bells::Bells;
@@ -37,6 +41,10 @@ pub struct Clerk<'a, G: Gate, K> {
     pub(crate) sink: K,
     // The seat is that of these slots, as each call of theirs requires.
     ghost seated: { IsClerkOf slots.now seat },
+    // A job that goes out finds a handle: at least one is there for each slot that is free. And none is let go for want of
+    // memory: there is room for one for each slot.
+    ghost gated: { (count_by is_free (looks_of seat) ≤ vec_len gates)
+        × (MOST_SLOTS ≤ vec_capacity gates) },
 }
 
 /// What is left of a clerk that has served.
@@ -49,14 +57,14 @@ pub struct Served<K> {
 }
 
 impl<'a, G: Gate, K: Sink> Clerk<'a, G, K> {
-    ghost use Rattle.std.specs.Prelude.{◌≡◌, [], replicate, IfOk, IfErr, OnErr};
+    ghost use Rattle.std.specs.Prelude.{◌≡◌, [], replicate, IfErr, OnErr};
     ghost use Rattle.rtrb.specs.Ring.{received, SameConsumer};
     ghost use Rattle.job_slots.specs.declared.view.Look.TheVariants.{Free};
     ghost use Rattle.peer_session.specs.HandedOn.{HandsOn};
     ghost use Rattle.rpc_peer.specs.Arriving.{bytes_of, ending_of};
     ghost use Rattle.stream_session.specs.Framings.{IsRunIn, IsShortIn};
     ghost use Rattle.rpc_peer.specs.Clerk.{CountsRun, IsNew, clerk_framing, clerk_table, clerk_limits};
-    ghost use Rattle.job_slots.specs.Seats.{looks_of, slot_count};
+    ghost use Rattle.job_slots.specs.Seats.{slot_count};
 
     /// A clerk before the first event. Nothing has come through its ring yet, and no job is out.
     ///
@@ -82,7 +90,9 @@ impl<'a, G: Gate, K: Sink> Clerk<'a, G, K> {
         ensures framing { IfOk result (λ clerk. clerk_framing clerk ≡ framing) }
         ensures table { IfOk result (λ clerk. clerk_table clerk ≡ table.now) }
         ensures limits { IfOk result (λ clerk. clerk_limits clerk ≡ limits) }
+        ensures gates { IfOk result (λ clerk. AreHandlesOf gate clerk.gates.items) }
         ensures ring { IfOk result (λ clerk. clerk.ring ≡ ring) }
+        ensures yields { IfOk result (λ clerk. clerk.yields ≡ yields) }
         ensures sink { IfOk result (λ clerk. clerk.sink ≡ sink) }
         ensures err { IfErr result (λ back. back ≡ sink) }
     {
@@ -143,7 +153,9 @@ impl<'a, G: Gate, K: Sink> Clerk<'a, G, K> {
 fn one_for_each_slot<G: Gate>(
     alloc: Global,
     gate: &Arc<G, Global>,
-) -> Result<Vec<Arc<G, Global>>, AllocError> {
+) -> Result<Vec<Arc<G, Global>>, AllocError>
+    ensures { IfOk result (λ gates. AreHandlesOf gate.now gates.items) }
+{
     let mut gates = Vec::with_capacity(alloc, MOST_SLOTS)?;
     for _ in 0..MOST_SLOTS {
         let Ok(handle) = Arc::try_clone(gate) else {

@@ -1,8 +1,11 @@
 //! The events of a clerk: each is one call of the session, with what comes before it or after it.
 
-ghost use Rattle.std.specs.Prelude.{IfErr, OnOk};
+ghost use Rattle.std.specs.Prelude.{◌≡◌, IfErr, IfOk, OnOk};
+ghost use Rattle.rtrb.specs.Ring.{received};
+ghost use Rattle.job_slots.specs.Seats.{looks_of};
 ghost use Rattle.stream_session.specs.Stream.{stream_of};
 ghost use Rattle.rpc_peer.specs.Serving.{Start, Serves, Stops, IsDrained};
+ghost use Rattle.rpc_peer.specs.Moves.{BringsHome, HandsOutOne, TakesIn};
 
 use crate::clerk::Clerk;
 use crate::gate::Gate;
@@ -19,6 +22,8 @@ impl<'a, G: Gate, K: Sink> Clerk<'a, G, K> {
             OnOk result (Serves K.handed_on K.bytes_taken K.failures start self.new) }
         ensures err { (start : Start K) → Serves K.handed_on K.bytes_taken K.failures start self.old →
             IfErr result (Stops K.handed_on K.bytes_taken K.failures start self.new) }
+        ensures told { IfOk result (λ came. TakesIn self.old came self.new) }
+        ensures slots { looks_of self.new.seat ≡ looks_of self.old.seat }
     {
         what_a_stream_wrote();
         if !self.stream.is_open() {
@@ -36,8 +41,10 @@ impl<'a, G: Gate, K: Sink> Clerk<'a, G, K> {
 
     /// Takes back the job of a slot, if it was turned.
     pub(crate) fn bring_home_from(&mut self, slot: u32) -> bool
-        ensures { (start : Start K) → Serves K.handed_on K.bytes_taken K.failures start self.old →
+        ensures serves { (start : Start K) → Serves K.handed_on K.bytes_taken K.failures start self.old →
             Serves K.handed_on K.bytes_taken K.failures start self.new }
+        ensures told { BringsHome slot (looks_of self.old.seat) result (looks_of self.new.seat) }
+        ensures ring { received self.new.ring ≡ received self.old.ring }
     {
         let Some(gated) = self.slots.collect(&mut self.seat, slot) else {
             return false;
@@ -55,6 +62,8 @@ impl<'a, G: Gate, K: Sink> Clerk<'a, G, K> {
         ensures drained { OnOk result (IsDrained (stream_of self.new.stream).session) }
         ensures err { (start : Start K) → Serves K.handed_on K.bytes_taken K.failures start self.old →
             IfErr result (Stops K.handed_on K.bytes_taken K.failures start self.new) }
+        ensures stays { (looks_of self.new.seat ≡ looks_of self.old.seat)
+            × (received self.new.ring ≡ received self.old.ring) }
     {
         self.stream.drain(&mut self.sink)
     }
@@ -62,8 +71,9 @@ impl<'a, G: Gate, K: Sink> Clerk<'a, G, K> {
     /// Hands out the first job that is ready, if there is one and a slot is free, with a gate of its own.
     /// It wakes nobody: `hand_out` does.
     pub(crate) fn hand_out_one(&mut self) -> bool
-        ensures { (start : Start K) → Serves K.handed_on K.bytes_taken K.failures start self.old →
+        ensures serves { (start : Start K) → Serves K.handed_on K.bytes_taken K.failures start self.old →
             Serves K.handed_on K.bytes_taken K.failures start self.new }
+        ensures told { HandsOutOne self.old result self.new }
     {
         if self.stream.count_ready() == 0 || !self.seat.has_room() {
             return false;

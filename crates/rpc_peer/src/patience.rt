@@ -1,5 +1,8 @@
 //! How a thread of a server waits.
 
+ghost use Rattle.std.specs.Prelude.{◌≡◌, ◌≤◌, false, IsSome, is_some, ◌↔◌};
+ghost use Rattle.rpc_peer.specs.Learning.{after_finding, after_a_look, after_a_sleep, after_nothing};
+
 use crossbeam_utils::sync::{EventCount, Key};
 use std::sync::Wait;
 use std::thread;
@@ -35,7 +38,10 @@ pub struct Patience {
 }
 
 impl Patience {
-    pub fn new(most: u32) -> Patience {
+    /// All looks before the first sleep.
+    pub fn new(most: u32) -> Patience
+        ensures { result ≡ record { most = most; looks = most; idle = 0; has_slept = false; sleeps = 0 } }
+    {
         Patience {
             most,
             looks: most,
@@ -46,7 +52,9 @@ impl Patience {
     }
 
     /// The key to a sleep, where the round that begins now is the last before it.
-    pub fn announce<'a>(&self, bell: &'a EventCount) -> Option<Key<'a>> {
+    pub fn announce<'a>(&self, bell: &'a EventCount) -> Option<Key<'a>>
+        ensures { IsSome result ↔ (self.now.looks ≤ self.now.idle) }
+    {
         if self.idle < self.looks {
             return None;
         }
@@ -54,7 +62,9 @@ impl Patience {
     }
 
     /// The round has found nothing: sleeps until the bell of the key rings, where there is one, and else looks again.
-    pub fn rest<R: Wait>(&mut self, rt: &R, key: Option<Key<'_>>) {
+    pub fn rest<R: Wait>(&mut self, rt: &R, key: Option<Key<'_>>)
+        ensures { self.new ≡ after_nothing self.old (is_some key.entry) }
+    {
         if let Some(key) = key {
             self.has_slept = true;
             key.wait(rt);
@@ -67,7 +77,9 @@ impl Patience {
     }
 
     /// The round has found something.
-    pub fn renew(&mut self) {
+    pub fn renew(&mut self)
+        ensures { self.new ≡ after_finding self.old }
+    {
         if self.has_slept {
             self.learn_from_a_sleep();
         } else if self.idle > 0 {
@@ -77,7 +89,9 @@ impl Patience {
         self.idle = 0;
     }
 
-    fn learn_from_a_sleep(&mut self) {
+    fn learn_from_a_sleep(&mut self)
+        ensures { self.new ≡ after_a_sleep self.old }
+    {
         self.sleeps = self.sleeps.saturating_add(1);
         if self.sleeps < SLEEPS_BEFORE_A_TRIAL {
             self.looks = self.most.min(FEW_LOOKS);
@@ -86,7 +100,9 @@ impl Patience {
         }
     }
 
-    fn learn_from_a_look(&mut self) {
+    fn learn_from_a_look(&mut self)
+        ensures { self.new ≡ after_a_look self.old }
+    {
         self.sleeps = 0;
         self.looks = self.most;
     }

@@ -1,6 +1,6 @@
 //! The server: a peer of several threads.
 
-ghost use Rattle.std.specs.Prelude.{◌≡◌, ◌≢◌, ◌↔◌, ℕ, ◌<◌, ◌≤◌, All, IsTrue, IfOk, IfErr};
+ghost use Rattle.std.specs.Prelude.{◌≡◌, ◌≢◌, ◌↔◌, ℕ, ◌<◌, ◌≤◌, All, length, IsTrue, IfOk, IfErr};
 ghost use Rattle.job_slots.specs.Seats.{IsClerkOf, IsWorkerOf, looks_of};
 ghost use Rattle.method_steps.specs.Steps.{MethodTable};
 ghost use Rattle.peer_session.specs.HandedOn.{HasHandedOn};
@@ -343,6 +343,7 @@ fn split_seats<J: Turns>(
     ensures table { IsClerkOf slots.now clerk.new }
     ensures looks { looks_of clerk.new ≡ looks_of clerk.old }
     ensures seats { IfOk result (λ seats. All (IsWorkerOf slots.now) seats.items) }
+    ensures many { IfOk result (λ seats. length seats.items ≡ workers) }
 {
     let mut seats = Vec::new(alloc);
     for _ in 0..workers {

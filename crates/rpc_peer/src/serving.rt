@@ -10,9 +10,14 @@ use std::sync::Wait;
 use stream_session::what_a_stream_wrote;
 
 impl<'a, G: Gate, K: Sink> Clerk<'a, G, K> {
-    ghost use Rattle.std.specs.Prelude.{IfOk, IfErr, OnOk};
+    ghost use Rattle.std.specs.Prelude.{◌≡◌, ◌+◌, ◌<◌, ℕ, Some, IfOk, IfErr, OnOk, MatchBool, slice_get};
+    ghost use Rattle.rtrb.specs.Ring.{received};
+    ghost use Rattle.job_slots.specs.declared.view.Look.TheVariants.{Free};
+    ghost use Rattle.job_slots.specs.Looks.{HasJob};
+    ghost use Rattle.job_slots.specs.Seats.{looks_of, slot_count};
     ghost use Rattle.stream_session.specs.Stream.{stream_of};
     ghost use Rattle.rpc_peer.specs.Serving.{Start, Serves, Stops, Finishes, IsDrained};
+    ghost use Rattle.rpc_peer.specs.Moves.{BringsHome, BringsSomeHome, HandsSomeOut, HasHandedOut, Settles, TakesInOrWaits, free_count};
 
     /// Goes round until all is done. Where it has found nothing to do for some rounds, it sleeps until its bell rings.
     pub(crate) fn serve<R: Wait>(&mut self, rt: &R) -> Result<Report, DrainFault>
@@ -49,7 +54,11 @@ impl<'a, G: Gate, K: Sink> Clerk<'a, G, K> {
     }
 
     /// Whether a job is in a slot, so that one may come home.
-    fn has_jobs_out(&self) -> bool {
+    fn has_jobs_out(&self) -> bool
+        ensures { MatchBool result ((slot : ℕ) × HasJob (looks_of self.now.seat) slot)
+            ((slot : ℕ) → slot < slot_count self.now.slots.now →
+            slice_get (looks_of self.now.seat) slot ≡ Some Free) }
+    {
         self.slots.next_in_use(&self.seat, 0).is_some()
     }
 
@@ -60,6 +69,7 @@ impl<'a, G: Gate, K: Sink> Clerk<'a, G, K> {
         ensures drained { OnOk result (IsDrained (stream_of self.new.stream).session) }
         ensures err { (start : Start K) → Serves K.handed_on K.bytes_taken K.failures start self.old →
             IfErr result (Stops K.handed_on K.bytes_taken K.failures start self.new) }
+        ensures told { IfOk result (λ came. Settles self.old came self.new) }
     {
         let came_home = self.bring_home();
         let came_in = self.take_in_if_few_wait()?;
@@ -74,6 +84,8 @@ impl<'a, G: Gate, K: Sink> Clerk<'a, G, K> {
             OnOk result (Serves K.handed_on K.bytes_taken K.failures start self.new) }
         ensures err { (start : Start K) → Serves K.handed_on K.bytes_taken K.failures start self.old →
             IfErr result (Stops K.handed_on K.bytes_taken K.failures start self.new) }
+        ensures told { IfOk result (λ came. TakesInOrWaits self.old came self.new) }
+        ensures slots { looks_of self.new.seat ≡ looks_of self.old.seat }
     {
         if self.stream.count_ready() as usize > MOST_SLOTS {
             return Ok(false);
@@ -83,8 +95,10 @@ impl<'a, G: Gate, K: Sink> Clerk<'a, G, K> {
 
     /// Takes back all jobs that were turned. It looks at the slots in use, and at no other.
     fn bring_home(&mut self) -> bool
-        ensures { (start : Start K) → Serves K.handed_on K.bytes_taken K.failures start self.old →
+        ensures serves { (start : Start K) → Serves K.handed_on K.bytes_taken K.failures start self.old →
             Serves K.handed_on K.bytes_taken K.failures start self.new }
+        ensures told { BringsSomeHome (looks_of self.old.seat) result (looks_of self.new.seat) }
+        ensures ring { received self.new.ring ≡ received self.old.ring }
     {
         let mut has_moved = false;
         let mut next = self.slots.next_in_use(&self.seat, 0);
@@ -101,8 +115,10 @@ impl<'a, G: Gate, K: Sink> Clerk<'a, G, K> {
     /// Takes back the job of a slot, if a look finds it turned. Most slots have none, and for these no room for a job is
     /// made.
     fn bring_home_if_turned(&mut self, slot: u32) -> bool
-        ensures { (start : Start K) → Serves K.handed_on K.bytes_taken K.failures start self.old →
+        ensures serves { (start : Start K) → Serves K.handed_on K.bytes_taken K.failures start self.old →
             Serves K.handed_on K.bytes_taken K.failures start self.new }
+        ensures told { BringsHome slot (looks_of self.old.seat) result (looks_of self.new.seat) }
+        ensures ring { received self.new.ring ≡ received self.old.ring }
     {
         self.slots.is_turned(&self.seat, slot) && self.bring_home_from(slot)
     }
@@ -110,8 +126,10 @@ impl<'a, G: Gate, K: Sink> Clerk<'a, G, K> {
     /// Hands out jobs, while one is ready and a slot is free, and then wakes a worker for each.
     fn hand_out(&mut self) -> bool
         requires { IsDrained (stream_of self.old.stream).session }
-        ensures { (start : Start K) → Serves K.handed_on K.bytes_taken K.failures start self.old →
+        ensures serves { (start : Start K) → Serves K.handed_on K.bytes_taken K.failures start self.old →
             Serves K.handed_on K.bytes_taken K.failures start self.new }
+        ensures told { HandsSomeOut (looks_of self.old.seat) result (looks_of self.new.seat) }
+        ensures all { HasHandedOut self.new }
     {
         let gone = self.hand_out_jobs();
         self.bells.jobs_were_offered(gone);
@@ -120,8 +138,10 @@ impl<'a, G: Gate, K: Sink> Clerk<'a, G, K> {
 
     /// Hands out jobs, while one is ready and a slot is free, and tells how many.
     fn hand_out_jobs(&mut self) -> u32
-        ensures { (start : Start K) → Serves K.handed_on K.bytes_taken K.failures start self.old →
+        ensures serves { (start : Start K) → Serves K.handed_on K.bytes_taken K.failures start self.old →
             Serves K.handed_on K.bytes_taken K.failures start self.new }
+        ensures told { free_count (looks_of self.old.seat) ≡ free_count (looks_of self.new.seat) + result }
+        ensures all { HasHandedOut self.new }
     {
         let mut gone: u32 = 0;
         for _ in 0..MOST_SLOTS {

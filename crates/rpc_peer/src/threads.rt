@@ -1,15 +1,15 @@
 //! The threads of a server.
 
-ghost use Rattle.std.specs.Prelude.{◌≡◌, [], All, length, IfOk, IfErr, IfSome};
+ghost use Rattle.std.specs.Prelude.{◌≡◌, [], All, length, IfOk, IfErr, IfSome, OnOk};
 ghost use Rattle.job_slots.specs.Seats.{IsWorkerOf};
 ghost use Rattle.rtrb.specs.Ring.{sent, SameProducer, SameConsumer};
 ghost use Rattle.rpc_peer.specs.Clerk.{IsNew, clerk_framing, clerk_table, clerk_limits};
-ghost use Rattle.rpc_peer.specs.Arriving.{Reads};
+ghost use Rattle.rpc_peer.specs.Arriving.{EndsBy, Reads};
 ghost use Rattle.rpc_peer.specs.Inner.Threads.{HasServed};
 ghost use Rattle.rpc_peer.specs.Serve.{end_of_run};
 
 use crate::arrival::Arrival;
-use crate::bells::Bells;
+use crate::bells::{Bells, Stopped};
 use crate::clerk::{Clerk, Served};
 use crate::end_hook::{EndHook, end_of_run};
 use crate::gate::Gate;
@@ -26,8 +26,8 @@ use std::sync::Wait;
 use std::thread;
 use std::thread::{JoinHandle, PromisedHandle, Scope, Threads};
 
-/// Starts a worker for each seat, and gives their handles. It gives None where there is no memory for these, or where a
-/// worker can't be started.
+/// Starts a worker for each seat, and gives their handles: each worker ends by showing that it has seen the server stopped.
+/// It gives None where there is no memory for these, or where a worker can't be started.
 fn hire<'s, E, J, R>(
     scope: &'s Scope<'s, E>,
     rt: &'s R,
@@ -36,7 +36,7 @@ fn hire<'s, E, J, R>(
     bells: &'s Bells,
     yields: u32,
     seats: Vec<WorkerSeat<J>>,
-) -> Option<Vec<JoinHandle<()>>>
+) -> Option<Vec<JoinHandle<Stopped>>>
 where
     J: Turns + Send + 's,
     R: Wait + Sync,
@@ -45,11 +45,9 @@ where
 {
     let mut workers = Vec::with_capacity(alloc, seats.len()).ok()?;
     for seat in seats {
-        let turns = move ||
+        let turns = move || -> Stopped
             requires { IsWorkerOf slots.now seat }
-        {
-            let _ = work(rt, slots, seat, bells, yields);
-        };
+        { work(rt, slots, seat, bells, yields) };
         workers.push(scope.spawn(turns).ok()?).ok()?;
     }
     Some(workers)
@@ -64,7 +62,7 @@ fn begin_reading<'s, E, S, R>(
     ring: Producer<Arrival>,
     bells: &'s Bells,
     yields: u32,
-) -> Option<PromisedHandle<Producer<Arrival>, Reading<S>>>
+) -> Option<PromisedHandle<(Producer<Arrival>, Result<(), Stopped>), Reading<S>>>
 where
     S: Source + Drop + Send + 's,
     R: Wait + Sync,
@@ -76,13 +74,14 @@ where
         source: Snapshot::of(&source),
         ring: Snapshot::of(&ring),
     };
-    let reads = move || -> Producer<Arrival>
+    let reads = move || -> (Producer<Arrival>, Result<(), Stopped>)
         requires { sent ring ≡ [] }
-        ensures { SameProducer ring result × Reads (S.gave source) (sent result) }
+        ensures { SameProducer ring result.0 × Reads (S.gave source) (sent result.0)
+            × OnOk result.1 (EndsBy (sent result.0)) }
     {
         let mut ring = ring;
-        let _ = read_into(rt, alloc, source, &mut ring, bells, yields);
-        ring
+        let read = read_into(rt, alloc, source, &mut ring, bells, yields);
+        (ring, read)
     };
     scope.spawn_with(promise, reads).ok()
 }
@@ -109,7 +108,9 @@ where
     H: EndHook,
     R: Threads + Wait + Sync,
     requires seats { All (IsWorkerOf slots.now) seats.items }
+    requires crew { length seats.items ≡ bells.now.crew }
     requires clerk { IsNew clerk }
+    requires patience { clerk.yields ≡ yields }
     requires ring { sent ring ≡ [] }
     ensures served { IfOk result (λ done. HasServed K.handed_on K.bytes_taken K.failures
         (clerk_framing clerk.entry) (clerk_table clerk.entry) (clerk_limits clerk.entry)
@@ -147,7 +148,8 @@ where
             let served = clerk.run(rt);
             hook.ended(end_of_run(&served.outcome));
             bells.stop();
-            Ok((served, reader.join(rt)))
+            let (ring, _) = reader.join(rt);
+            Ok((served, ring))
         },
     )
 }

@@ -1,15 +1,16 @@
 -- A turned job comes home, or nothing changes.
-use Rattle.std.proofs.Common.{sym, ap, subst}
+use Rattle.std.proofs.Common.{vec_len, vec_capacity, sym, ap, subst, arith}
 use Rattle.rtrb.specs.Ring.{received}
 use Rattle.job_slots.specs.Seats.{looks_of}
 use Rattle.peer_session.specs.SessionState.{SessionState}
 use Rattle.stream_session.specs.Stream.{stream_of}
 use Rattle.rpc_peer.specs.Serves.{ServesAfter, fed_by}
 use Rattle.rpc_peer.proofs.Happenings.{comes-home}
+use Rattle.rpc_peer.proofs.Looks.{handle-back}
 use Rattle.rpc_peer.proofs.clerk.Clerk.bring_home_from.Goals as goal
 
-pub returns-in_default : goal.returns-in_default
-returns-in_default g c = λ start had. record {
+pub returns-in_default-clause-serves : goal.returns-in_default-clause-serves
+returns-in_default-clause-serves g c = λ start had. record {
   after = subst (λ looks. ServesAfter start.framing start.table start.limits (received c.args.self.now.ring) (g.K.Sink.bytes_taken start.sink) (stream_of c.args.self.now.stream) looks
       (g.K.Sink.bytes_taken c.args.self.now.sink)) (sym c.in_default.ensures.not_yet) had.after;
   ring = had.ring;
@@ -17,8 +18,8 @@ returns-in_default g c = λ start had. record {
   flushed = had.flushed;
 }
 
-pub returns : goal.returns
-returns g c = λ start had.
+pub returns-clause-serves : goal.returns-clause-serves
+returns-clause-serves g c = λ start had.
     let self = c.args.self.now in
     let at = g.K.Sink.bytes_taken self.sink in
     let told = c.in-Some.ensures.turned in
@@ -34,3 +35,13 @@ returns g c = λ start had.
       unfailing = had.unfailing;
       flushed = had.flushed;
     }
+
+pub invariant_of-self-2-clause-gated : goal.invariant_of-self-2-clause-gated
+invariant_of-self-2-clause-gated g c =
+    let self = c.args.self.now in
+    let seat = c.collect.new.clerk in
+    let home = c.in-Some.ensures.turned in (
+      handle-back (looks_of self.seat) (looks_of seat) c.args.slot c.push.result (vec_len self.gates) (vec_len c.push.new.self) (vec_capacity self.gates)
+          ((home.0, home.1), c.in-Some.ensures.emptied) (omega (arith, seat.sized)) self.gated.0 self.gated.1 c.push.ensures.len c.push.ensures.full,
+      omega (arith, self.gated.1, c.push.ensures.capacity),
+    )

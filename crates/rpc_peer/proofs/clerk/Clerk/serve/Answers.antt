@@ -23,12 +23,12 @@ returns-then-is_done-clause-ok g c = λ start had.
 
 pub loop-preserved-then-has_gone : goal.loop-preserved-then-has_gone
 loop-preserved-then-has_gone g c = λ start had.
-    c.hand_out-has_gone.ensures start (c.in_ok-has_come.ensures.ok start (c.loop.invariant start had))
+    c.hand_out-has_gone.ensures.serves start (c.in_ok-has_come.ensures.ok start (c.loop.invariant start had))
 
 pub loop-preserved-then-has_gone-2 : goal.loop-preserved-then-has_gone-2
 loop-preserved-then-has_gone-2 g c = λ start had.
-    c.hand_out-has_gone.ensures start (c.in_ok-has_come.ensures.ok start (c.loop.invariant start had))
+    c.hand_out-has_gone.ensures.serves start (c.in_ok-has_come.ensures.ok start (c.loop.invariant start had))
 
 pub loop-preserved : goal.loop-preserved
 loop-preserved g c = λ start had.
-    c.hand_out-has_gone.ensures start (c.in_ok-has_come.ensures.ok start (c.loop.invariant start had))
+    c.hand_out-has_gone.ensures.serves start (c.in_ok-has_come.ensures.ok start (c.loop.invariant start had))
