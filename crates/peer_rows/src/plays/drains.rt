@@ -1,5 +1,5 @@
-//! What a drain hands on: the sink of a session is flushed once where a drain has written something, and else not. However much
-//! is due, one drain writes it.
+//! What a drain hands on: the sink of a session is written to once and flushed once where a drain has something to
+//! write, and else not at all. However much is due, one drain writes it.
 
 use super::{METHODS, frame, table};
 use job_slots::Turns;
@@ -12,17 +12,27 @@ use std::io::{self, Write};
 use std::process::Abort;
 use std::test::Fail;
 
-/// Takes all bytes, and counts them, its flushes, and the bytes that stood before the last of these.
+/// Takes all bytes, and counts them, its writes and its flushes, and the bytes that stood before the last of these.
 #[derive(PartialEq, Eq, Drop)]
 struct Counter {
     bytes: usize,
+    writes: u32,
     flushes: u32,
     handed_on: usize,
 }
 
+/// Before the first call.
+const NO_CALL: Counter = Counter {
+    bytes: 0,
+    writes: 0,
+    flushes: 0,
+    handed_on: 0,
+};
+
 impl Write for Counter {
     fn write(&mut self, buf: &[u8]) -> io::Result<usize> {
         self.bytes = self.bytes.saturating_add(buf.len());
+        self.writes = self.writes.saturating_add(1);
         Ok(buf.len())
     }
 
@@ -33,7 +43,8 @@ impl Write for Counter {
     }
 }
 
-/// A session's contents, and how many bytes and flushes its counter has after the drain behind each.
+/// A session's contents, and how many bytes and flushes its counter has after the drain behind each. It has as many
+/// writes.
 const DRAINS: &[(&str, usize, u32)] = &[
     (r#"{"jsonrpc":"2.0","method":"nope"}"#, 0, 0),
     (r#"{"jsonrpc":"2.0","method":"nope","id":1}"#, 99, 1),
@@ -41,10 +52,13 @@ const DRAINS: &[(&str, usize, u32)] = &[
     ("[1,2]", 283, 2),
 ];
 
-/// Whether the counter has so many bytes, all handed on, and so many flushes once the session has written what is due.
-fn is_drained(session: &mut Session<'_>, to: &mut Counter, bytes: usize, flushes: u32) -> bool {
+/// Whether the counter has so many bytes, all handed on, and so many writes and flushes, once the session has written
+/// what is due.
+fn is_drained(session: &mut Session<'_>, to: &mut Counter, bytes: usize, times: u32) -> bool {
     let is_written = session.drain(&mut StdSink::new(&mut *to)).is_ok();
-    is_written && to.bytes == bytes && to.handed_on == bytes && to.flushes == flushes
+    is_written
+        && (to.bytes, to.handed_on) == (bytes, bytes)
+        && (to.writes, to.flushes) == (times, times)
 }
 
 /// Each content and its drain, and a drain behind the last.
@@ -53,19 +67,15 @@ fn each_is_drained(
     alloc: Global,
     session: &mut Session<'_>,
 ) -> Result<(), AllocError> {
-    let mut counter = Counter {
-        bytes: 0,
-        flushes: 0,
-        handed_on: 0,
-    };
-    for (content, bytes, flushes) in DRAINS {
+    let mut counter = NO_CALL;
+    for (content, bytes, times) in DRAINS {
         let frame = frame(alloc, content)?;
         if session.is_open() {
             session.take(&frame)?;
         }
         for _ in 0..2 {
             assert!(rt;
-                is_drained(session, &mut counter, *bytes, *flushes),
+                is_drained(session, &mut counter, *bytes, *times),
                 "{content}"
             );
         }
@@ -122,7 +132,7 @@ fn turns_all(session: &mut Session<'_>) -> bool {
     true
 }
 
-/// Whether one drain writes all answers and calls, and flushes once.
+/// Whether one drain writes all answers and calls in one piece, and flushes once.
 fn is_drained_at_once(
     alloc: Global,
     session: &mut Session<'_>,
@@ -132,11 +142,7 @@ fn is_drained_at_once(
     let is_taken = takes_all(session, &frame(alloc, UNKNOWN)?)?
         && takes_all(session, &frame(alloc, ASK)?)?
         && turns_all(session);
-    let mut counter = Counter {
-        bytes: 0,
-        flushes: 0,
-        handed_on: 0,
-    };
+    let mut counter = NO_CALL;
     let is_written = session
         .drain_in(framing, &mut StdSink::new(&mut counter))
         .is_ok();
@@ -144,7 +150,8 @@ fn is_drained_at_once(
     Ok(
         is_taken
             && is_written
-            && (counter.bytes, counter.flushes, counter.handed_on) == (bytes, 1, bytes)
+            && (counter.bytes, counter.handed_on) == (bytes, bytes)
+            && (counter.writes, counter.flushes) == (1, 1)
             && (report.answers, report.messages) == (u64::from(DUE), u64::from(DUE)),
     )
 }
