@@ -71,14 +71,26 @@ static bool is_open(End *self)
     return self->at != NULL;
 }
 
+/* Takes the lock, where it is free. It isn't waited for, since others could then come before. */
+static bool is_taken(End *self)
+{
+    PyObject *waits = PyBool_FromLong(0);
+    PyObject *taken = PyObject_CallFunctionObjArgs(self->acquire, waits, NULL);
+    bool is_well = taken != NULL && PyObject_IsTrue(taken) == 1;
+    Py_DecRef(taken);
+    Py_DecRef(waits);
+    return is_well;
+}
+
 /* Around a call: where it is long, other threads of the interpreter go on meanwhile. Its caller has asked whether it
- * can be made, and nothing of Python's has run since: so nobody is away, and the lock is free. (Where there is no
- * memory to take it, the others wait.) */
+ * can be made, and nothing of Python's has run since, or may run before it is made: so nobody is away. The lock may
+ * still be that of a thread that has waited for an earlier call, and waits for the interpreter's lock. Then, and where
+ * there is no memory to take it, all others wait. */
 static bool go(End *self, bool is_long)
 {
     if (!is_long)
         return false;
-    if (!is_called(self->acquire)) {
+    if (!is_taken(self)) {
         PyErr_Clear();
         return false;
     }
