@@ -87,13 +87,14 @@ class Report:
         self.seconds: dict[str, float] = {}
         self.printing, self.begun = threading.Lock(), time.monotonic()
         self.sessions: set[int] = set()
-        # (each part has a session of its own, which a terminal's interrupt doesn't reach)
-        signal.signal(signal.SIGINT, self.interrupted)
+        # (each part has a session of its own, which what ends this one doesn't reach)
+        for it in (signal.SIGINT, signal.SIGTERM, signal.SIGHUP):
+            signal.signal(it, self.interrupted)
 
-    def interrupted(self, *_: object) -> None:
+    def interrupted(self, number: int, _: object) -> None:
         for it in [*self.sessions]:
             end_session(it)
-        os._exit(130)
+        os._exit(128 + number)
 
     def say(self, text: str) -> None:
         with self.printing:
