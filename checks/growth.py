@@ -4,9 +4,9 @@ open. Four conversations are known to take the judge the square of their size; t
 what is only promised: a head that says 16 MiB, with nothing behind it, makes no large request. Nor is any kept for what
 is over: a million runs of a method take as much as a thousand, and a server that rests holds the same bytes, to the
 kilobyte, behind the second and the third content, line or response of 16 MB, long batch or piece of many lines. Behind
-100,000 open calls it is known to hold more; and so it is, until the next content comes, behind 100,000 notifications
-that run on once their batch is answered. At rest it has little room for what may come, and an entry of a batch takes
-what it needs. A long content is read once if its method comes first, and without its params if the table lacks it.
+100,000 open calls, and as many notifications that run on once their batch is answered, it is known to hold more: the sets
+of numbers keep their room. At rest it has little room for what may come, and an entry of a batch takes what it needs. A
+long content is read once if its method comes first, and without its params if the table lacks it.
 
 Instructions are callgrind's, so that a busy machine changes nothing. What a size costs beside its start, the program's
 own beginning, is left out. Why by instructions: docs/decisions/tests_and_releases.md#measuring."""
@@ -396,8 +396,7 @@ RESTS = {
 # They are the same to the kilobyte. Known: behind open calls the sets of numbers keep room for the most that were open.
 EVEN, KEPT = 1_024, {"open calls": 200_000}
 # So many notifications run on behind the answer of their batch, and nothing is written as the last of them is done.
-# Known: the desk keeps a place for each, and as many again, until it next releases an answer. The sets keep their room.
-RUN_ON, DESK_KEPT = 100_000, 100_000 * 2 * 8
+RUN_ON = 100_000
 # So many calls are open, and each takes so many bytes: docs/performance.md, "What bin/test holds".
 OPEN, OPEN_BYTES = 20_000, 1_586 * 1.05
 # So many bytes a server holds that rests behind two requests, and so many it has held: one of them has 70,000 bytes.
@@ -448,13 +447,13 @@ def check_runs_on(count):
         many = [runs_on(server, RUN_ON) for _ in range(2)]
         server.number += sum((100, 100, RUN_ON, RUN_ON)) + 4
         behind = server.at_rest()
+    # (the sets of numbers keep their room, as behind open calls)
     most = few[-1] + KEPT["open calls"]
     print(
         f"{RUN_ON:,} notifications run on: {few[-1]:,} bytes held before, {many} behind, {behind:,} at the next content"
     )
-    is_known = most < min(many) and max(many) <= most + DESK_KEPT
-    count.check("room is kept behind notifications that run on, which is known", is_known, f"{few}, {many}")
-    count.check("it is given back at the next content", 0 < behind <= most, f"{behind:,}, at most {most:,}")
+    count.check("no room is kept behind notifications that run on", 0 < max(many) <= most, f"{few}, {many}, {most:,}")
+    count.check("nor at the next content", 0 < behind <= most, f"{behind:,}, at most {most:,}")
 
 
 def check_open(count):

@@ -1,6 +1,7 @@
-"""What one sum takes in `play`, sent by itself and in batches of 100, is what docs/performance.md has, or less: its
-instructions, by callgrind, and how often the program asks for memory for it. Both are the difference of 3,000 sums and
-1,000, so what the program's own start takes is left out, and no load of the machine moves them."""
+"""What a request takes in `play` is what docs/performance.md has, or less: its instructions, by callgrind, and how often the
+program asks for memory for it. A sum is sent by itself and in batches of 100; and a request whose method asks the client
+is followed by the response to that. Both are the difference of 3,000 requests and 1,000, so what the program's own start
+takes is left out, and no load of the machine moves them."""
 import os
 import sys
 from typing import Callable
@@ -14,9 +15,12 @@ from measures import inputs  # noqa: E402 (it stands in bench/)
 
 FEW, MANY = 1_000, 3_000
 PLAY = ("play", "--table", os.path.join(ran.TOP, "bench", "baseline", "methods.toml"))
-# What was reached (docs/performance.md has it among what is held), by the way that sums come: instructions, and requests for
-# memory.
-REACHED = {"single": (inputs.adds, 7_381, 4.1), "in batches of 100": (inputs.batches_of_adds, 6_805, 3.3)}
+# What was reached (docs/performance.md has it among what is held), by the request: instructions, and requests for memory.
+REACHED = {
+    "a sum": (inputs.adds, 7_381, 4.1),
+    "a sum in a batch of 100": (inputs.batches_of_adds, 6_805, 3.3),
+    "a request that asks": (inputs.calls_back, 0, 0.0),
+}
 # So much more is taken for a change of the C library or of the compiler, and not for one of ours.
 SPARE = 1.05
 
@@ -41,11 +45,11 @@ def check_each(
 ) -> None:
     few, many = counted(make(FEW)), counted(make(MANY))
     if few is None or many is None:
-        count.check(f"sums {name}: {what} are counted", False)
+        count.check(f"{name}: {what} are counted", False)
         return
     each = (many - few) / (MANY - FEW)
-    print(f"a sum {name}: {each:,.1f} {what}, {reached:,} on the page", flush=True)
-    count.check(f"sums {name}: {what}", 0 < each <= reached * SPARE, f"{each:,.1f}, at most {reached * SPARE:,.1f}")
+    print(f"{name}: {each:,.1f} {what}, {reached:,} on the page", flush=True)
+    count.check(f"{name}: {what}", 0 < each <= reached * SPARE, f"{each:,.1f}, at most {reached * SPARE:,.1f}")
 
 
 def check_all(count: ran.Count) -> None:

@@ -237,6 +237,8 @@ impl Desk {
         ensures { view self.new ≡ with_end (view self.old) number reply }
     {
         self.numbers.finish(number, reply);
+        // (behind an answer that is out, notifications end one by one, and `release` has nothing to do)
+        self.numbers.shrink();
     }
 
     /// Whether `release` may have something to do: false only where the first unit that waits isn't whole, or none waits.

@@ -1,5 +1,5 @@
 //! A little of each kind of work. It tells no times, so that it writes the same each time.
-use crate::lockstep::{Rounds, go_round};
+use crate::lockstep::{Rounds, Server, go_round};
 use crate::work::{Crew, Finishing, Task, written};
 use program_edge::Failure;
 use std::io::Write;
@@ -28,6 +28,8 @@ where
     };
     let rounds = Rounds {
         count: ROUNDS,
+        ahead: 0,
+        server: Server::ServeBy,
         crew,
     };
     go_round(rt, rounds, output)

@@ -30,7 +30,7 @@ module _ {J : Type 0} where
   BringsSomeHome before true after = free_count before < free_count after
   BringsSomeHome before false after = after ≡ before
 
-  -- Some job went out; or nothing has changed.
+  -- Some job went out; or as many slots are free as before.
   abbrev pub HandsSomeOut : List (Look J) → Bool → List (Look J) → Type 0
   HandsSomeOut before true after = free_count after < free_count before
   HandsSomeOut before false after = free_count after ≡ free_count before

@@ -1,16 +1,26 @@
-//! The command that serves a client in lockstep: how many rounds, and with how much patience.
-use crate::lockstep::Rounds;
-use program_edge::{CommandOption, NumberOption, ProgramCommand, Words};
+//! The command that serves a client in lockstep: how many rounds, by what, and with how much patience.
+use crate::lockstep::{Rounds, Server};
+use program_edge::{ChoiceOption, CommandOption, NumberOption, ProgramCommand, Words};
 use rpc_peer::Crew;
 
 /// The rounds that the words ask for.
 pub fn rounds_of(words: &Words<'_>) -> Rounds {
     Rounds {
         count: words.number(&ROUNDS),
+        ahead: words.number(&AHEAD),
+        server: server(words),
         crew: Crew {
             workers: words.number(&WORKERS),
             yields: words.number(&YIELDS),
         },
+    }
+}
+
+fn server(words: &Words<'_>) -> Server {
+    match words.choice(&SERVER) {
+        "serve" => Server::Serve,
+        "serve_lines" => Server::ServeLines,
+        _ => Server::ServeBy,
     }
 }
 
@@ -19,6 +29,8 @@ pub const LOCKSTEP: ProgramCommand = ProgramCommand {
     about: "Serve a client that waits for each answer before its next request",
     options: &[
         CommandOption::Number(ROUNDS),
+        CommandOption::Number(AHEAD),
+        CommandOption::Choice(SERVER),
         CommandOption::Number(WORKERS),
         CommandOption::Number(YIELDS),
     ],
@@ -31,6 +43,23 @@ const ROUNDS: NumberOption = NumberOption {
     least: 1,
     greatest: 1_000_000,
     usual: "1000",
+};
+
+const AHEAD: NumberOption = NumberOption {
+    name: "ahead",
+    value_name: "N",
+    help: "How many requests may be unanswered as the next is sent",
+    least: 0,
+    greatest: 1_000_000,
+    usual: "0",
+};
+
+const SERVER: ChoiceOption = ChoiceOption {
+    name: "server",
+    value_name: "S",
+    help: "What of rpc_peer serves: with serve_by threads have the patience of --yields, else the usual one",
+    words: &["serve_by", "serve", "serve_lines"],
+    usual: "serve_by",
 };
 
 const WORKERS: NumberOption = NumberOption {

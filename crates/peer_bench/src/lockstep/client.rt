@@ -1,4 +1,4 @@
-//! A client that waits for each answer before its next request: a source and a sink that know of each other.
+//! A client that waits for answers before its next request: a source and a sink that know of each other.
 
 ghost use Rattle.std.specs.Prelude.{None};
 
@@ -10,14 +10,16 @@ use std::thread;
 /// So often the client looks for an answer before it gives up.
 const PATIENCE: u32 = 200_000_000;
 
-/// What the client sends each time, and how many bytes each answer has.
+/// What the client sends each time, how many bytes each answer has, and so many bytes of answers that needn't have come
+/// before the next is sent.
 #[derive(Clone, Copy)]
 pub struct Step<'a> {
     pub request: &'a [u8],
     pub answer: u64,
+    pub ahead: u64,
 }
 
-/// Gives the request so many times, each once all before it are answered. Where an answer never comes, the input ends.
+/// Gives the request so many times, each once enough before it are answered. Where an answer never comes, the input ends.
 #[derive(Drop)]
 pub struct Asking<'a> {
     pub step: Step<'a>,
@@ -38,7 +40,7 @@ impl Source for Asking<'_> {
             return Ok(0);
         }
         for _ in 0..PATIENCE {
-            if self.taken.load(SeqCst) >= self.wanted {
+            if self.taken.load(SeqCst).saturating_add(self.step.ahead) >= self.wanted {
                 self.left = self.left.saturating_sub(1);
                 self.wanted = self.wanted.saturating_add(self.step.answer);
                 let count = self.step.request.len().min(room.len());

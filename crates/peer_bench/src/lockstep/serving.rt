@@ -1,11 +1,12 @@
 //! A server for the client's rounds.
 use super::client::{Asking, Counting, Step};
-use super::rounds::Rounds;
+use super::rounds::{Rounds, Server};
 use crate::work::written;
 use lsp_frames::encode;
 use method_steps::Table;
 use program_edge::Failure;
-use rpc_peer::{Limits, OpenGate, serve_by};
+use rpc_peer::{Limits, OpenGate, serve, serve_by, serve_lines};
+use std::alloc::{AllocError, Global};
 use std::io::Write;
 use std::sync::atomic::AtomicU64;
 use std::sync::{Arc, Wait};
@@ -45,15 +46,28 @@ fn answered<R>(rt: &R, rounds: Rounds) -> Result<u64, Failure>
 where
     R: Threads + Wait + Sync + AllocGlobal,
 {
-    let request = encode(rt.alloc(), REQUEST)?;
-    let answer = encode(rt.alloc(), ANSWER)?.len() as u64;
+    let request = written_for(rt.alloc(), rounds.server, REQUEST)?;
+    let answer = written_for(rt.alloc(), rounds.server, ANSWER)?.len() as u64;
     let step = Step {
         request: request.as_slice(),
         answer,
+        ahead: answer.saturating_mul(u64::from(rounds.ahead)),
     };
     match Table::read(rt.alloc(), METHODS) {
         Ok(table) => answered_by(rt, &table, rounds, step),
         Err(_) => Err(Failure::Memory),
+    }
+}
+
+/// A content as this server reads and writes it.
+fn written_for(alloc: Global, server: Server, content: &[u8]) -> Result<Vec<u8>, AllocError> {
+    match server {
+        Server::ServeBy | Server::Serve => encode(alloc, content),
+        Server::ServeLines => {
+            let mut line = content.to_vec(alloc)?;
+            line.push(b'\n')?;
+            Ok(line)
+        }
     }
 }
 
@@ -71,17 +85,17 @@ where
         taken: &taken,
     };
     let sink = Counting { taken: &taken };
-    let gate = Arc::new(alloc, OpenGate)?;
-    match serve_by(
-        rt,
-        alloc,
-        table,
-        Limits::standard(),
-        rounds.crew,
-        gate,
-        source,
-        sink,
-    ) {
+    let limits = Limits::standard();
+    let workers = rounds.crew.workers;
+    let served = match rounds.server {
+        Server::ServeBy => {
+            let gate = Arc::new(alloc, OpenGate)?;
+            serve_by(rt, alloc, table, limits, rounds.crew, gate, source, sink)
+        }
+        Server::Serve => serve(rt, alloc, table, limits, workers, source, sink),
+        Server::ServeLines => serve_lines(rt, alloc, table, limits, workers, source, sink),
+    };
+    match served {
         Ok((report, _)) => Ok(report.answers),
         Err(_) => Err(Failure::Memory),
     }
