@@ -30,6 +30,9 @@ def checkout(made: str, room: str) -> str:
         os.makedirs(os.path.dirname(f"{copy}/{name}"), exist_ok=True)
         shutil.copy(f"{ran.TOP}/{name}", f"{copy}/{name}", follow_symlinks=False)
     shutil.copy(f"{ports.BUILT}/linux-arm64/{made}", f"{copy}/release")
+    # (the package for Node.js takes it where there is no addon)
+    if "wasm32" in ports.whole():
+        shutil.copytree(f"{ports.BUILT}/wasm32", f"{copy}/{os.path.relpath(ports.BUILT, ran.TOP)}/wasm32")
     return copy
 
 
@@ -84,7 +87,10 @@ class Language:
 
 PYTHON = Language(
     "python",
-    ["python3", "python3-venv", "python3-pytest", "python3-uvicorn", "python3-httpx", "python3-mypy"],
+    [
+        *("python3", "python3-venv", "python3-pip", "python3-pytest", "python3-mypy"),
+        *("python3-uvicorn", "python3-httpx", "python3-websockets", "python3-jsonschema"),
+    ],
     # (it finds what belongs to it by the name that it is called by, also in an environment of its own)
     {
         f"{OF_PYTHON}/usr/bin/python": "#!/bin/sh\n"

@@ -82,7 +82,8 @@ test('streams that are cut after each part are taken up again: nothing is lost, 
     const { write } = response
     let parts = 0
     response.write = (...given) => {
-      if (++parts === 4) setImmediate(() => response.destroy()) // (so that some are on their way)
+      // (so that some are on their way; and behind its end the next request may be under way on its connection)
+      if (++parts === 4) setImmediate(() => response.writableEnded || response.destroy())
       return write.apply(response, given)
     }
   }
@@ -233,7 +234,7 @@ test('many sessions, half of which are cut and taken up again: nothing is lost, 
     let parts = 0
     const isCut = ++count % 2 === 0 && request.method === 'POST'
     response.write = (...given) => {
-      if (isCut && ++parts === 3) setImmediate(() => response.destroy())
+      if (isCut && ++parts === 3) setImmediate(() => response.writableEnded || response.destroy())
       return write.apply(response, given)
     }
     handler(request, response)
@@ -251,9 +252,12 @@ test('many sessions, half of which are cut and taken up again: nothing is lost, 
     }
     await client.close()
   }
-  for (let at = 0; at < 20; at += 10) await Promise.all(Array.from({ length: 10 }, (_, it) => session(at + it)))
-  await until(() => handler.sessions === 0)
-  assert.ok(count > 20 * 11)
-  web.closeAllConnections()
-  web.close()
+  try {
+    for (let at = 0; at < 20; at += 10) await Promise.all(Array.from({ length: 10 }, (_, it) => session(at + it)))
+    await until(() => handler.sessions === 0)
+    assert.ok(count > 20 * 11)
+  } finally {
+    web.closeAllConnections()
+    web.close()
+  }
 })

@@ -8,6 +8,7 @@ const os = require('node:os')
 const path = require('node:path')
 const { ToolServer } = require('../lib/mcp')
 const { Template } = require('../lib/mcp/templates')
+const { patience } = require('./helping')
 const { rows, talking } = require('./tool_table')
 
 const { names, paths, others } = rows('templates')
@@ -69,7 +70,7 @@ test('a million characters that match no cut of a template', () => {
   ]) {
     const begin = process.cpuUsage().user
     assert.equal(found(template, uri), null)
-    assert.ok(process.cpuUsage().user - begin < 2_000_000, template) // (the square of them would take minutes)
+    assert.ok(process.cpuUsage().user - begin < patience(2_000_000), template) // (the square of them would take minutes)
   }
 })
 

@@ -1,6 +1,7 @@
 """What docs/tools_over_http.md shows, as a stranger runs it, where uvicorn and curl are; and its table of settings."""
 import dataclasses
 import os
+import platform
 import re
 import shutil
 import resource
@@ -95,6 +96,7 @@ class Shown(Blocks):
         # (there is no network, and uvicorn is Debian's)
         lines = install().replace("-m venv v", "-m venv --system-site-packages v").replace("python3", python)
         lines = lines.replace("install", "install -q --no-index").replace(" uvicorn", "")
+        lines = lines.replace("x86_64", platform.machine())
         own = {it: value for it, value in self.env.items() if not it.startswith(("PYTHON", "BULLMYRTLE"))}
         subprocess.run(["sh", "-ec", lines], cwd=self.room, env=own, check=True)
         self.env = {**own, "PATH": os.pathsep.join([os.path.join(self.room, "v", "bin"), own["PATH"]])}

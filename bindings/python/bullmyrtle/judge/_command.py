@@ -223,6 +223,7 @@ def _drive(it: argparse.Namespace, command: List[str]) -> int:
     status = driver.run(source, sink)
     found = seen.finish(lambda: driver.is_interrupted)
     speaker.finish()
+    driver.end()
     return _status(it.strict, bool(found & HAS_BROKEN), bool(found & PARTLY), status)
 
 

@@ -103,6 +103,10 @@ class Driver:
         os.set_blocking(descriptor, False)
         return descriptor
 
+    def end(self) -> None:
+        """No signal is passed on any more."""
+        self._signals.end()
+
     @property
     def is_interrupted(self) -> bool:
         """Whether a signal came when the server had ended."""

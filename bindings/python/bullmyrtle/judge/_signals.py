@@ -23,6 +23,7 @@ class Signals:
         self._waited = {*_PASSED, signal.SIGCHLD}
         self._before = signal.pthread_sigmask(signal.SIG_BLOCK, self._waited)
         self._server: Optional["subprocess.Popen[bytes]"] = None
+        self._is_over = False
         #: The signal that came when the server had ended already.
         self.last: Optional[int] = None
 
@@ -32,12 +33,23 @@ class Signals:
 
     def pass_on_to(self, server: "subprocess.Popen[bytes]") -> None:
         self._server = server
-        threading.Thread(target=self._run, name="signals", daemon=True).start()
+        self._passing = threading.Thread(target=self._run, name="signals", daemon=True)
+        self._passing.start()
+
+    def end(self) -> None:
+        """From here on signals wait again. (One by which this process ends itself is its own: under qemu a thread that
+        waits for signals takes it, and the process goes on for ever.)"""
+        self._is_over = True
+        assert self._passing.ident is not None
+        signal.pthread_kill(self._passing.ident, signal.SIGCHLD)
+        self._passing.join()
 
     def _run(self) -> None:
         assert self._server is not None
         while True:
             it = signal.sigwaitinfo(self._waited)
+            if self._is_over:
+                return
             if it.si_signo != signal.SIGCHLD:
                 if self._server.poll() is not None:  # (also where nobody has looked since it ended)
                     self.last = it.si_signo
