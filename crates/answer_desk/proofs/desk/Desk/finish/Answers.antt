@@ -12,7 +12,7 @@ pub invariant_of-self : goal.invariant_of-self
 unfolding view
 invariant_of-self c =
     let self = c.args.self.now in
-    rw c.finish.ensures (record {
+    rw (c.shrink.ensures, c.finish.ensures) (record {
       numbers_ascend = rw (length-set self.numbers c.args.number (with_answer c.args.reply (kept_at self.numbers c.args.number))) self.numbers_ascend;
       parts_are_finished = rw (units-answered self.numbers c.args.number c.args.reply self.units.items c.requires)
           (front_still_finished c.args.number c.args.reply self.finished_parts (map (waiting_of self.numbers) self.units.items) self.parts_are_finished);
@@ -24,5 +24,5 @@ pub returns : goal.returns
 unfolding view
 returns c =
     let self = c.args.self.now in
-    ap (λ es. seen es self.is_closed self.units.items) c.finish.ensures
+    ap (λ es. seen es self.is_closed self.units.items) (c.shrink.ensures ∙ c.finish.ensures)
     ∙ seen-answered self.numbers self.is_closed self.units.items c.args.number c.args.reply c.requires
