@@ -41,6 +41,7 @@ async function hosted(act, { around = (request, response) => {}, settings = {}, 
   const web = createServer((request, response) => {
     if (around(request, response) !== true) handler(request, response)
   })
+  web.keepAliveTimeout = patience(web.keepAliveTimeout)
   await new Promise(resolve => web.listen(0, '127.0.0.1', () => resolve(undefined)))
   const url = `http://127.0.0.1:${/** @type {any} */ (web.address()).port}/mcp`
   const client = new ToolClient({ name: 'h', version: '1' }, { sampling: () => 'Flowers', ...options })
@@ -239,6 +240,8 @@ test('many sessions, half of which are cut and taken up again: nothing is lost, 
     }
     handler(request, response)
   })
+  // (a request on a connection that is closed at this moment fails, since nobody knows whether it came)
+  web.keepAliveTimeout = patience(web.keepAliveTimeout)
   await new Promise(resolve => web.listen(0, '127.0.0.1', () => resolve(undefined)))
   const url = `http://127.0.0.1:${/** @type {any} */ (web.address()).port}/mcp`
   const session = async name => {
