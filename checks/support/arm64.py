@@ -71,7 +71,7 @@ class Language:
             print("SKIPPED: the packages on arm64, since bin/build-ports linux-arm64 hasn't made their files")
             return
         path = f"{self.commands_folder()}:{os.environ['PATH']}"
-        env = {**USUAL, **os.environ, "PATH": path}
+        env = {**USUAL, **os.environ, "PATH": path, "NODE_TYPES": f"{OF_NODE}/usr/share/nodejs/@types"}
         words = [shutil.which(self.script[0], path=path) or "", *self.script[1:], *files]
         # (it takes hours, so what it says is passed on line by line)
         how: dict[str, Any] = {"env": env, "stdout": subprocess.PIPE, "text": True}
