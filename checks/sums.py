@@ -19,7 +19,7 @@ PLAY = ("play", "--table", os.path.join(ran.TOP, "bench", "baseline", "methods.t
 REACHED = {
     "a sum": (inputs.adds, 7_381, 4.1),
     "a sum in a batch of 100": (inputs.batches_of_adds, 6_805, 3.3),
-    "a request that asks": (inputs.calls_back, 0, 0.0),
+    "a request that asks": (inputs.calls_back, 16_128, 13.1),
 }
 # So much more is taken for a change of the C library or of the compiler, and not for one of ours.
 SPARE = 1.05
