@@ -5,6 +5,7 @@ as they were told to, and let others run in between. It has as many threads as i
 import os
 import resource
 import subprocess
+import time
 
 from support import ran
 
@@ -103,10 +104,12 @@ def check_yields(bench: str) -> None:
 def threads_of(bench: str, server: str) -> tuple[int, int]:
     """How a server ends, and the most threads that it was seen to have."""
     words = ["lockstep", "--rounds", str(ROUNDS), "--server", server, "--workers", str(WORKERS)]
-    most = 0
+    most, end = 0, time.monotonic() + PATIENCE
     with subprocess.Popen([bench, *words], stdout=subprocess.DEVNULL) as running:
         while running.poll() is None:
             most = max(most, len(os.listdir(f"/proc/{running.pid}/task")))
+            if time.monotonic() > end:
+                running.kill()
     return running.returncode, most
 
 

@@ -37,8 +37,8 @@ class Signals:
         self._passing.start()
 
     def end(self) -> None:
-        """From here on signals wait again. (One by which this process ends itself is its own: under qemu a thread that
-        waits for signals takes it, and the process goes on for ever.)"""
+        """From here on signals wait again. This process may end itself by one then: under qemu a thread that waits for
+        signals would take it, and the process would never end."""
         self._is_over = True
         assert self._passing.ident is not None
         signal.pthread_kill(self._passing.ident, signal.SIGCHLD)
