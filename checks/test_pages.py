@@ -523,7 +523,8 @@ def test_picture_of_a_frame() -> None:
 def test_figures_of_sums() -> None:
     """What sums.py holds the program to are the figures of the page."""
     reached = re.findall(r"inputs\.\w+, ([\d_]+), ([\d.]+)\)", ran.text_of("checks", "sums.py"))
-    rows = re.findall(r"^\| .* \| ([\d.,]+); ([\d.,]+) \| 5 % more \|", ran.text_of("docs", "performance.md"), re.M)
+    cells = r"([\d.,]+); ([\d.,]+); ([\d.,]+) \| 5 % more \| `checks/sums.py` \|"
+    rows = re.findall(rf"^\| .* \| {cells}$", ran.text_of("docs", "performance.md"), re.M)
     same([*zip(*rows)], [(instructions.replace("_", ","), requests) for instructions, requests in reached])
 
 
