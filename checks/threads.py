@@ -76,9 +76,7 @@ def check_patience(bench: str) -> None:
     three times in all, and with the greatest neither ever does, nor the reader where there is no room for its piece."""
     status, sleeps, _ = run_of(bench, 0)
     count.check(
-        "threads without patience sleep in each round",
-        status == 0 and sleeps >= FEW_ROUNDS * 5 // 2,
-        f"{status} {sleeps}",
+        "threads without patience sleep in each round", status == 0 and sleeps >= FEW_ROUNDS, f"{status} {sleeps}"
     )
     for rounds, ahead in ((FEW_ROUNDS, 0), (MANY_ROUNDS, AHEAD)):
         status, sleeps, _ = run_of(bench, MOST_LOOKS, rounds, ahead)
