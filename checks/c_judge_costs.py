@@ -3,10 +3,9 @@
 What judging takes, by `support/judge_costs.c` over the C library: instructions of requests and their answers before the
 judge, beside those of a connection that is fed the same requests and answers them. And what it takes grows with what is
 judged and no faster, where all is answered at once, and where all is open before the first answer comes, with ids that
-are numbers and that are strings: twice as many take at most 2.2 times the instructions, and the memory of 200,000 is at
-most 2.2 times that of 100,000; and where all is answered at once, with ids that are numbers, 1,000, 100,000 and 200,000
-hold the same bytes, 20,560. Contents that can't be read, on as many open requests, are known to take more; this is seen.
-Instructions are callgrind's."""
+are numbers and that are strings: twice as many take at most 2.2 times the instructions, as do contents that can't be
+read behind as many open requests, and the memory of 200,000 is at most 2.2 times that of 100,000; and where all is answered
+at once, with ids that are numbers, 1,000, 100,000 and 200,000 hold the same bytes, 20,592. Instructions are callgrind's."""
 import argparse
 import os
 import subprocess
@@ -25,8 +24,8 @@ COUNT, MOST_GROWTH = 10_000, 2.2
 MOST_TIMES = 3.35
 FEWEST_HELD, FEW_HELD, MANY_HELD = 1_000, 100_000, 200_000
 KINDS = tuple(f"{way}{ids}" for ids in ("", "-strings") for way in ("passed", "open", "reversed"))
-# What takes time with the square of its size, and of which this size is enough.
-SQUARE, SIZE = "unreadable", 1_000
+# Contents that can't be read, behind as many open requests.
+UNREADABLE = "unreadable"
 WORDS = [*C99, "-O2"]
 
 
@@ -39,8 +38,7 @@ def words_of(words: Iterable[str]) -> argparse.Namespace:
 
 def check_instructions(count: ran.Count, program: str, most: int) -> None:
     """Counts at three sizes, as many side by side as there are processors."""
-    sizes = {it: (0, most // 2, most) for it in ("none", "connection", *KINDS)}
-    sizes[SQUARE] = (0, SIZE // 2, SIZE)
+    sizes = {it: (0, most // 2, most) for it in ("none", "connection", *KINDS, UNREADABLE)}
     counted = iter(
         ran.side_by_side(partial(instructions, [program, kind, str(it)]) for kind, them in sizes.items() for it in them)
     )
@@ -50,10 +48,8 @@ def check_instructions(count: ran.Count, program: str, most: int) -> None:
     if not failed:
         taken = {kind: [it or 0 for it in them] for kind, them in found.items()}
         check_times(count, taken, most)
-        for kind in KINDS:
+        for kind in (*KINDS, UNREADABLE):
             check_growth(count, kind, taken[kind], most)
-        growth = growth_of(taken[SQUARE])
-        count.check(f"{SQUARE} grows faster, which is seen", growth > 3, f"{growth:.2f}")
 
 
 def each(taken: list[int], most: int) -> float:

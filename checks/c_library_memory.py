@@ -4,9 +4,9 @@ What the C library does with memory. Two million calls come to a connection, and
 same as after the first 100,000; where a host closes no notification it is seen to grow. The longest batch of invalid
 entries takes at most 160 bytes for each of its bytes, one that is too long 3. It leaves 64 KiB at most, and so does
 whatever else is large or comes often: content, line or response of 16 MB, 100,000 open calls, for a connection and for a
-judge, and behind the second and the third of them there are the same bytes, to the kilobyte. A judge that finds 100,000
-things in one piece is known to keep their room. A content that waits, one or a line that isn't whole, and an answer that
-waits for an earlier one take at most twice their bytes; a request that is open among 32 at most five times what it takes
+judge, and behind the second and the third of them there are the same bytes, to the kilobyte. A judge that is shown 100,000
+messages in one piece is known to keep the room that they waited in. A content that waits, one or a line that isn't whole,
+and an answer that waits for an earlier one take at most twice their bytes; a request that is open among 32 at most five times what it takes
 where the others are open too; and a batch of which one request is open no more than 16 KiB. So much at most is held
 behind a long text of the output and behind the last of many, and with all written there are the same bytes behind each
 long one, to the kilobyte. Under valgrind, where it is installed, rows, random sessions, loans and all examples have no
@@ -67,7 +67,7 @@ HELD = (
     ("judge-findings", 100_000),
     ("judge-findings-in-turn", 100_000),
 )
-# Known: the queue of what was found and isn't told keeps the room of the most that it ever had.
+# Known: the queue of contents that came and weren't judged yet keeps the room of the most that it ever had.
 KEPT = {"judge-findings": 16_000_000}
 # What is open or isn't whole, how much of it, and how many bytes are held for it at most: each of its bytes may stand in
 # room for two, and what it is kept in has some more. (held_open.c has answers of 1,000 bytes.)

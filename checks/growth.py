@@ -1,6 +1,6 @@
 """The program's work grows with its input and no faster: twice the input takes at most 2.2 times the instructions, and so
 does what `judge` is shown: contents that can be read and that can't, long ids, ids that are used again and that are held
-open. Four conversations are known to take the judge the square of their size; this is seen. And no memory is asked for
+open. Three conversations are known to take the judge the square of their size; this is seen. And no memory is asked for
 what is only promised: a head that says 16 MiB, with nothing behind it, makes no large request. Nor is any kept for what
 is over: a million runs of a method take as much as a thousand, and a server that rests holds the same bytes, to the
 kilobyte, behind the second and the third content, line or response of 16 MB, long batch or piece of many lines. Behind
@@ -141,15 +141,25 @@ JUDGED = [
         lambda size: shown(array_of(">", to(size), asks), array_of("<", to(size), answers)),
         800,
     ),
-]
-# Known to take the square of the size: each answer is tried on what is left of its batch, each cancel on all that has its
-# id, and each array on all batches that have its first.
-SQUARES = [
     (
         "a batch, answered from its end",
         lambda size: shown(array_of(">", to(size), asks), array_of("<", reversed(to(size)), answers)),
-        300,
+        800,
     ),
+    (
+        "a batch of equal ids, answered as one",
+        lambda size: shown(array_of(">", [1] * size, asks), array_of("<", [1] * size, answers)),
+        800,
+    ),
+    (
+        "a batch of invalid entries, answered by null",
+        lambda size: shown((">", rows.batch(*["1"] * size)), array_of("<", ["null"] * size, answers)),
+        800,
+    ),
+]
+# Known to take the square of the size: each single answer is tried on what is left of a batch, each cancel on all that has
+# its id, and each answer of an array that fits no batch on all batches that have its id.
+SQUARES = [
     (
         "a batch of equal ids, answered one by one",
         lambda size: shown(array_of(">", [1] * size, asks), *[answers(1)] * size),

@@ -18,10 +18,10 @@
  * Memory. The functions copy the bytes that you pass, and keep no pointer of yours. The library uses malloc, realloc
  *   and free of the C library.
  * Loans. Two things are lent to you, and lie in the memory of the connection: you may read them, and not change them.
- * The texts of an event hold until the next bm_feed, bm_end, bm_next or bm_free on the connection. What bm_output lends
- *   holds until the next bm_written or bm_free. All other calls leave both as they are, and where they are: you may
- *   answer, call and write while you look at an event, and pass its texts, or parts of them, to these calls. Pass no
- *   other memory of the library to it.
+ *   The texts of an event hold until the next bm_feed, bm_end, bm_next or bm_free on the connection. What bm_output
+ *   lends holds until the next bm_written or bm_free. All other calls leave both as they are, and where they are: you
+ *   may answer, call and write while you look at an event, and pass its texts, or parts of them, to these calls. Pass
+ *   no other memory of the library to it.
  * Pointers. No pointer may be NULL, but one to bytes, lengths, sayings, events or findings whose length or count is 0.
  *   A pointer to a struct or an integer must have the alignment that C requires for its type. Memory that a function
  *   writes to (an event, a key, a count) must not overlap with anything else that is passed to it.
@@ -116,7 +116,7 @@ enum {
 enum {
     BM_OVER_CLEAN,         /* bm_end was passed BM_CLOSED */
     BM_OVER_BAD_HEAD,      /* a header line isn't a field (BM_FRAMES) */
-    BM_OVER_BAD_LENGTH,    /* a Content-Length isn't a number (BM_FRAMES) */
+    BM_OVER_BAD_LENGTH,    /* a Content-Length isn't a number of at most 10 digits (BM_FRAMES) */
     BM_OVER_TWO_LENGTHS,   /* a header has two Content-Lengths (BM_FRAMES) */
     BM_OVER_TOO_LARGE,     /* a message is longer than the setting allows */
     BM_OVER_NO_LENGTH,     /* a header has no Content-Length (BM_FRAMES) */

@@ -142,6 +142,7 @@ class Side:
     used: Used
     count: int = 0  # of its contents
     dues: list[Due] = field(default_factory=list)  # what it owes, the oldest first
+    refusals: int = 0  # its errors with the id null that fitted nothing, and may have refused what it still owes
     initialize: set[Id] = field(default_factory=set)
     has_exited: bool = False
     has_unreadable: bool = False  # a content of it couldn't be read
@@ -233,6 +234,8 @@ class Judge:
 
     def next_place(self, side: str, content: Content) -> Place:
         self.sides[side].count += 1
+        owing = self.sides[OTHER[side]]
+        owing.refusals = min(owing.refusals, len(owing.dues))
         return Place(side, self.sides[side].count, content.place)
 
     def take_unit(self, side: str, unit: Unit, place: Place) -> None:
@@ -360,6 +363,10 @@ class Judge:
     def take_single(self, side: str, answer: Answer) -> None:
         """An answer that stands alone."""
         found = self.owed_to(side, answer.entry)
+        if found is None and self.refuses(side, answer.entry):
+            self.sides[side].refusals += 1
+            self.find(side, "not-owed", NOTE, answer.place, f"it may refuse what is open: {answer.words}")
+            return
         if found is None:
             self.fits_nothing(side, [answer])
             return
@@ -416,6 +423,16 @@ class Judge:
         level = NOTE if unreadable is not None else self.or_note(MUST)
         for it in told:
             self.find(side, "not-owed", level, it.place, f"{self.why_not(side, it.entry.id)}: {it.words}")
+
+    def refuses(self, side: str, entry: Entry) -> bool:
+        """Whether an answer that fits nothing may refuse a content whole for a limit of its side: a batch, or what its
+        reader may limit. Each counts for one of those that are open."""
+        its = self.sides[side]
+        is_error = entry.kind == "answer" and entry.error is not ABSENT and entry.id is None
+        if not is_error or any(it.is_unreadable for it in its.dues):
+            return False
+        may_be = any(it.is_batch or it.has_huge for it in its.dues)
+        return may_be and its.refusals < len(its.dues)
 
     def why_not(self, side: str, id_: Id) -> str:
         used = self.sides[OTHER[side]].used
@@ -534,11 +551,14 @@ class Judge:
         its, asker = self.sides[side], self.sides[OTHER[side]]
         is_excused = asker.ended != "" or asker.has_exited or self.ends_session(side)
         for due in its.dues:
-            level = NOTE if how == "failed" or due.may_be_answered else self.or_note(MUST)
-            for owed in due.entries:
-                if owed.must and not is_excused:
-                    self.find(side, "unanswered", level, owed.place, owed.words)
+            left = [it for it in due.entries if it.must]
+            may_be_refused = bool(left) and its.refusals > 0
+            its.refusals -= may_be_refused
+            is_note = how == "failed" or due.may_be_answered or may_be_refused
+            for owed in [] if is_excused else left:
+                self.find(side, "unanswered", NOTE if is_note else self.or_note(MUST), owed.place, owed.words)
         its.dues.clear()
+        its.refusals = 0
 
     def ends_session(self, side: str) -> bool:
         """The client does, in LSP by `exit`, and in MCP by its end."""

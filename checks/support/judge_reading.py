@@ -12,6 +12,7 @@ from support.reading import ABSENT, DEPTH, WHOLE
 
 NUMBER = re.compile(r"(-?)([0-9]+)(?:\.([0-9]+))?(?:[eE]([+-]?[0-9]+))?")
 BRACKETS = {"[": "]", "{": "}"}
+SAFE_DEPTH = 31  # what nests deeper may be refused by a reader
 
 
 # Contents
@@ -25,10 +26,10 @@ class Stream:
 
     @property
     def fault(self) -> str:
-        """Nothing, "head", or "not-judged" where it is a limit of the judge's, or may be one: a length of more than 10
-        digits isn't told from one that is no number."""
+        """Nothing, "head", or "not-judged" where it is a limit of the judge's."""
         fault = self.cutter.fault
-        return "not-judged" if fault in ("BadLength", "TooLarge", "HeadTooLong") else "head" if fault else ""
+        is_limit = fault in ("TooLarge", "HeadTooLong") or (fault == "BadLength" and is_long(self.cutter.rest))
+        return "not-judged" if is_limit else "head" if fault else ""
 
     @property
     def place(self) -> int:
@@ -46,6 +47,13 @@ class Stream:
     def closed(self) -> Optional[Content]:
         """What the close leaves: a line without its LF, or a frame that isn't whole."""
         return self.cutter.last()
+
+
+def is_long(rest: bytes) -> bool:
+    """Whether the length in a head has more digits than are read, and nothing else."""
+    fields = (line.partition(b":") for line in rest.split(b"\n"))
+    values = [value for name, _, value in fields if name.lower() == b"content-length"]
+    return re.fullmatch(rb"[0-9]{11,}", values[0].strip(b" \t\r")) is not None
 
 
 # JSON
@@ -109,6 +117,12 @@ def has_huge(value: Any) -> bool:
     if isinstance(value, Members):
         return any(has_huge(it) for _, it in value)
     return isinstance(value, list) and any(map(has_huge, value))
+
+
+def depth_of(value: Any) -> int:
+    """How many arrays and objects stand in one another."""
+    inside = [it for _, it in value] if isinstance(value, Members) else value if isinstance(value, list) else None
+    return 0 if inside is None else 1 + max(map(depth_of, inside), default=0)
 
 
 # Ids
@@ -282,7 +296,7 @@ class Unit(NamedTuple):
     is_array: bool
     entries: tuple[Entry, ...]
     texts: tuple[str, ...]  # the words of each entry, compact
-    has_huge: bool  # or a member of it stands twice: a reader may refuse it whole
+    has_huge: bool  # or a member of it stands twice, or a request nests deep: a reader may refuse it whole
 
 
 def unit_of(content: Content) -> Unit:
@@ -291,5 +305,7 @@ def unit_of(content: Content) -> Unit:
     values = value if is_array else [value]
     texts = tuple(connection_reading.text_of(it) for it in values)
     entries = tuple(map(entry_of, values))
-    may_be_refused = has_huge(value) or any(it.first is not None for it in entries)
+    is_twice = any(it.first is not None for it in entries)
+    is_deep = any(it.kind == "request" and depth_of(part) > SAFE_DEPTH for it, part in zip(entries, values))
+    may_be_refused = has_huge(value) or is_twice or is_deep
     return Unit(is_array, entries, texts, may_be_refused)

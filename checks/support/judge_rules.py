@@ -56,6 +56,7 @@ OTHER_LEVELS = {
     "cancel-unknown": (NOTE, MUST),
     "after-cancel": (NOTE,),
     "unanswered": (MUST, NOTE),
+    "not-owed": (MUST, NOTE),
 }
 LEVELS_BY_RULE = {it: OTHER_LEVELS.get(it, (MUST,)) for it in (*CONNECTION, *HOST)}
 

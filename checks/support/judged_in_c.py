@@ -11,6 +11,7 @@ from support import ran
 from support.connection_script import FRAMINGS
 from support.judge_conversations import Conversation, Seen, show
 from support.judge_model import MOST_CONTENT, MOST_IDS, SIDES, Finding, Judge
+from support.judge_refusals import refusing
 from support.judge_rules import CONNECTION, HOST, MUST, NOT_JUDGED, NOTE, RULES, SHOULD
 
 # As the header counts them. The rules stand in the order of the table of docs/judge.md.
@@ -111,7 +112,12 @@ def planted(name: str) -> Conversation:
     return plants.planted(name, chance.choice((*plants.PLANTS, *plants.CUT))).conversation
 
 
-KINDS = {"with a peer": conversations.with_a_peer, "joined": conversations.joined, "planted": planted}
+KINDS = {
+    "with a peer": conversations.with_a_peer,
+    "joined": conversations.joined,
+    "planted": planted,
+    "refused": refusing,
+}
 
 
 def talks(kind: str, cases: int) -> list[Talk]:

@@ -97,8 +97,8 @@ WRONGS = (
     Wrong(
         "a call in which a member stands twice isn't refused",
         "judge_reading",
-        "has_huge(value) or any(it.first is not None for it in entries)",
-        "has_huge(value)",
+        "has_huge(value) or is_twice or is_deep",
+        "has_huge(value) or is_deep",
     ),
     Wrong(
         "a call in which a member stands twice must be answered",
@@ -188,6 +188,41 @@ WRONGS = (
         "is_refusal = self.rules.batch is not None and",
         "is_refusal = False and",
     ),
+    Wrong("a batch is refused twice", "judge_model", "may_be and its.refusals < len(its.dues)", "may_be"),
+    Wrong("an error refuses all batches", "judge_model", "its.refusals -= may_be_refused", "its.refusals -= 0"),
+    Wrong(
+        "an error refuses what comes behind it", "judge_model", "min(owing.refusals, len(owing.dues))", "owing.refusals"
+    ),
+    Wrong(
+        "an error settles the oldest batch",
+        "judge_model",
+        "            self.sides[side].refusals += 1\n",
+        "            self.settle_whole(side, self.sides[side].dues[0])\n",
+    ),
+    Wrong(
+        "what stands alone may be refused",
+        "judge_model",
+        "any(it.is_batch or it.has_huge for it in its.dues)",
+        "bool(its.dues)",
+    ),
+    Wrong(
+        "a result refuses a batch",
+        "judge_model",
+        'is_error = entry.kind == "answer" and entry.error is not ABSENT and',
+        'is_error = entry.kind == "answer" and',
+    ),
+    Wrong("a broken error refuses a batch", "judge_model", 'is_error = entry.kind == "answer" and', "is_error ="),
+    Wrong("all readers take one depth more", "judge_reading", "SAFE_DEPTH = 31", "SAFE_DEPTH = 32"),
+    Wrong("some reader takes one depth less", "judge_reading", "SAFE_DEPTH = 31", "SAFE_DEPTH = 30"),
+    Wrong(
+        "a notification that nests deep may be refused",
+        "judge_reading",
+        'it.kind == "request" and depth_of(part)',
+        "depth_of(part)",
+    ),
+    Wrong("a length that is no number may be too long", "judge_reading", "and is_long(self.cutter.rest)", "and True"),
+    Wrong("a length that is too long is none", "judge_reading", "and is_long(self.cutter.rest)", "and False"),
+    Wrong("a long length has anything in it", "judge_reading", 'rb"[0-9]{11,}"', 'rb"[0-9].{10,}"'),
     Wrong("an id that is open in a batch may not be used", "judge_model", "elif not is_in_batch and any(", "elif any("),
     Wrong("-32604 is defined", "judge_rules", "range(-32603, -32599)", "range(-32604, -32599)"),
     Wrong(

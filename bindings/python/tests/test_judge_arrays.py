@@ -1,4 +1,5 @@
-"""Arrays where the protocol has no batches: anyone who takes one for no message answers it by an error with the id null."""
+"""Arrays that are refused whole, by an error with the id null: where the protocol has no batches they are no message, and
+else they may have too many entries."""
 import json
 
 from helping import rows
@@ -38,9 +39,13 @@ class Arrays(Case):
                 self.assertEqual(self.found(rules, *twice), wanted)
 
     @rows(["jsonrpc", "mcp:2025-03-26"])
-    def test_batches_have_their_own_rules(self, rules):
-        found = self.found(rules, ("client", [NOTIFICATION]), ("server", refusal()))
-        self.assertEqual(found, ["must not-owed 1"])
+    def test_a_batch_may_be_refused_once(self, rules):
+        refusals = [("server", refusal(code=5))] * 3
+        found = self.found(rules, ("client", [NOTIFICATION]), ("client", [REQUEST]), *refusals)
+        self.assertEqual(found, ["note not-owed 1", "note not-owed 2", "must not-owed 3"])
+        self.assertIn("it may refuse what is open", self.lines[0])
+        self.assertIn("a batch may be refused whole", self.lines[1])
+        self.assertNotIn("refuse", self.lines[2])
 
     @rows(
         [

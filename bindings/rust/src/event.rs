@@ -229,7 +229,7 @@ pub enum Close {
     Clean,
     /// A header line isn't a field.
     BadHead,
-    /// A `Content-Length` isn't a number.
+    /// A `Content-Length` isn't a number of at most 10 digits.
     BadLength,
     /// A header has two of them.
     TwoLengths,

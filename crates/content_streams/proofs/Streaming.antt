@@ -9,7 +9,7 @@ use Rattle.lsp_frames.specs.Contents.{Standing, IsContents}
 use Rattle.lsp_frames.specs.Decoding.{Decoding, StandsAfter}
 use Rattle.lsp_frames.specs.declared.frame.Frame.{Frame}
 use Rattle.lsp_frames.specs.declared.frame.FrameFault.{FrameFault}
-use Rattle.lsp_frames.specs.declared.frame.FrameFault.TheVariants.{BadHead, BadLength, TwoLengths, TooLarge, NoLength, HeadTooLong, Truncated}
+use Rattle.lsp_frames.specs.declared.frame.FrameFault.TheVariants.{BadHead, BadLength, TwoLengths, TooLarge, NoLength, HeadTooLong, Truncated, LongLength}
 use Rattle.lsp_frames.proofs.Laws.{no_bytes_show_an_end}
 use Rattle.content_streams.specs.Framed.{frames_of, standing_of, placed_frames}
 use Rattle.content_streams.specs.Lines.{parts, ended_lines, fits, all_fit, line_contents, place_behind, placed_line_contents, line_place}
@@ -40,6 +40,7 @@ fault_known (frames.Broken TwoLengths) real = refl
 fault_known (frames.Broken TooLarge) real = refl
 fault_known (frames.Broken NoLength) real = refl
 fault_known (frames.Broken HeadTooLong) real = refl
+fault_known (frames.Broken LongLength) real = refl
 fault_known (frames.Broken Truncated) real = absurd (real Truncated refl refl)
 
 pub fault_at : (limit : ℕ) (bytes : List ℕ) → fault_at_end (frames.end_of (standing_of limit bytes)) ≡ fault_left (standing_of limit bytes)

@@ -1,5 +1,5 @@
 -- The oldest content with something, by its number and by its place in the list.
-use Rattle.std.proofs.Common.{◌≡◌, ℕ, zero, suc, ◌<◌, ◌≤◌, ◌==◌, ◌||◌, not, Bool, true, false, cond, if◌then◌else◌, List, [], ◌∷◌, Option, Some, None, refl, ap, sym, subst, ◌∙◌, arith, nat_le, map, length, position, remove, eq-eqb, option_map}
+use Rattle.std.proofs.Common.{◌≡◌, ℕ, zero, suc, ◌<◌, ◌≤◌, ◌==◌, ◌||◌, not, Bool, true, false, cond, if◌then◌else◌, List, [], ◌∷◌, Option, Some, None, refl, ap, sym, subst, ◌∙◌, arith, nat_le, position, remove, eq-eqb, option_map}
 use Rattle.std.specs.List.{list_any, slice_get}
 use Rattle.std.specs.Prelude.{is_some}
 use Rattle.std.specs.Option.{option_map_or, option_and_then}
@@ -7,23 +7,21 @@ use Rattle.std.proofs.lemmas.Bool.{eqb-true, eqb-false, leb-true, leb-false}
 use Rattle.number_windows.specs.Numbered.{at, without, changed_at, Above, Ascending}
 use Rattle.number_windows.proofs.Numbered.{apart_after, at_above, without_above, changed_above}
 use Rattle.conversation_dues.proofs.Left.{position-first}
-use Rattle.conversation_dues.specs.Found.{first_of, index_of, target_at, target_of, whole_if}
-use Rattle.conversation_dues.specs.declared.targets.Place.{Place}
+use Rattle.conversation_dues.specs.Found.{first_of, index_of, values_of, target_at, whole_if}
 use Rattle.conversation_dues.specs.declared.targets.Place.TheVariants as places
 use Rattle.conversation_open.specs.Open.{contents_of, settled_at, and_removed, is_empty, IsNoneBetween, IsNoneBehind}
 use Rattle.conversation_ids.specs.OwedMarks.{due_has}
-use Rattle.conversation_rules.specs.Dues.{settled, settled_entry, with_entries, fit_in, found}
+use Rattle.conversation_rules.specs.Dues.{settled, settled_entry, fit_in, found}
 use Rattle.conversation_rules.specs.Matching.{oldest, place_in, later}
 use Rattle.conversation_rules.specs.Owed.{Owed, Due}
-use Rattle.conversation_rules.specs.declared.found.Found.{Found}
 use Rattle.conversation_rules.specs.declared.found.Found.TheVariants.{Entry}
 use Rattle.conversation_rules.specs.declared.found.Target.{Target}
 use Rattle.conversation_rules.specs.declared.found.Target.TheVariants.{EntryOf, WholeOf}
 
-here : (e : ℕ × Due) (es : List (ℕ × Due)) → at e.0 (e ∷ es) ≡ Some e.1
+pub here : {X : Type 0} (e : ℕ × X) (es : List (ℕ × X)) → at e.0 (e ∷ es) ≡ Some e.1
 here e es = ap (λ b. cond b (Some e.1) (at e.0 es)) (eq-eqb e.0 e.0 refl)
 
-behind : (e : ℕ × Due) (es : List (ℕ × Due)) (n : ℕ) (x : Due) → Above e.0 es → at n es ≡ Some x → at n (e ∷ es) ≡ Some x
+pub behind : {X : Type 0} (e : ℕ × X) (es : List (ℕ × X)) (n : ℕ) (x : X) → Above e.0 es → at n es ≡ Some x → at n (e ∷ es) ≡ Some x
 behind e es n x above is = ap (λ b. cond b (Some e.1) (at n es)) (apart_after n e.0 (at_above e.0 n x es above is)) ∙ is
 
 -- ---- the first
@@ -108,20 +106,20 @@ any_is p (e ∷ es) = any_step e (p e.1) (list_any p (contents_of es)) (first_of
 
 -- ---- what stands there
 
-index_step : (b : Bool) (e : ℕ × Due) (es : List (ℕ × Due)) (i : ℕ) (o : Option Due) → slice_get (contents_of es) i ≡ o → slice_get (contents_of (e ∷ es)) (if b then zero else suc i) ≡ cond b (Some e.1) o
+index_step : {X : Type 0} (b : Bool) (e : ℕ × X) (es : List (ℕ × X)) (i : ℕ) (o : Option X) → slice_get (values_of es) i ≡ o → slice_get (values_of (e ∷ es)) (if b then zero else suc i) ≡ cond b (Some e.1) o
 index_step true e es i o is = refl
 index_step false e es i o is = is
 
-pub at_index : (n : ℕ) (es : List (ℕ × Due)) → slice_get (contents_of es) (index_of n es) ≡ at n es
+pub at_index : {X : Type 0} (n : ℕ) (es : List (ℕ × X)) → slice_get (values_of es) (index_of n es) ≡ at n es
 at_index n [] = refl
 at_index n (e ∷ es) = index_step (n == e.0) e es (index_of n es) (at n es) (at_index n es)
 
-removed_step : (b : Bool) (n : ℕ) (e : ℕ × Due) (es : List (ℕ × Due)) → (b ≡ true → without n es ≡ es) → remove (contents_of es) (index_of n es) ≡ contents_of (without n es) →
-    remove (contents_of (e ∷ es)) (if b then zero else suc (index_of n es)) ≡ contents_of (cond (not b) (e ∷ without n es) (without n es))
-removed_step true n e es gone rest = ap contents_of (sym (gone refl))
+removed_step : {X : Type 0} (b : Bool) (n : ℕ) (e : ℕ × X) (es : List (ℕ × X)) → (b ≡ true → without n es ≡ es) → remove (values_of es) (index_of n es) ≡ values_of (without n es) →
+    remove (values_of (e ∷ es)) (if b then zero else suc (index_of n es)) ≡ values_of (cond (not b) (e ∷ without n es) (without n es))
+removed_step true n e es gone rest = ap values_of (sym (gone refl))
 removed_step false n e es gone rest = ap (λ xs. e.1 ∷ xs) rest
 
-pub removed_is : (n : ℕ) (es : List (ℕ × Due)) → Ascending es → remove (contents_of es) (index_of n es) ≡ contents_of (without n es)
+pub removed_is : {X : Type 0} (n : ℕ) (es : List (ℕ × X)) → Ascending es → remove (values_of es) (index_of n es) ≡ values_of (without n es)
 removed_is n [] order = refl
 removed_is n (e ∷ es) order =
     removed_step (n == e.0) n e es (λ same. without_above n es (subst (λ m. Above m es) (sym (eqb-true n e.0 same)) order.0)) (removed_is n es order.1)

@@ -1,6 +1,6 @@
 -- What is told of the entries that the answers of an array take.
-use Rattle.std.proofs.Common.{◌≡◌, ℕ, suc, List, [], ◌∷◌, ◌++◌, Bool, true, false, Option, Some, None, length, take, drop, map, filter, refl, ap, sym, ◌∙◌, append_assoc, option_map, Result, Ok, Err, IfOk, Vec, Global}
-use Rattle.std.specs.Prelude.{count_by, not}
+use Rattle.std.proofs.Common.{◌≡◌, ℕ, suc, List, [], ◌∷◌, ◌++◌, Option, Some, None, length, take, drop, refl, ap, sym, ◌∙◌, append_assoc, option_map, Result, Ok, Err, IfOk, Vec, Global}
+use Rattle.std.specs.Prelude.{count_by}
 use Rattle.std.specs.List.{remove, slice_get}
 use Rattle.std.specs.Option.{option_map_or}
 use Rattle.std.proofs.Math.Seq.{take-append_seam}
@@ -11,7 +11,6 @@ use Rattle.conversation_rules.specs.Matching.{taken_by, nulls_last}
 use Rattle.conversation_rules.specs.Owed.{Owed, Due}
 use Rattle.conversation_rules.specs.declared.found.Fit.{Fit}
 use Rattle.conversation_dues.specs.Left.{IsLeftOf, ids_of, left_after, left_of}
-use Rattle.conversation_dues.specs.declared.arrays.Which.{Which}
 use Rattle.conversation_dues.specs.declared.arrays.Which.TheVariants.{Named, Nulls}
 
 left_of-append : (xs ys : List WrittenId) (left : List Owed) → left_of (xs ++ ys) left ≡ left_of ys (left_of xs left)

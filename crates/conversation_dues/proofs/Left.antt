@@ -1,25 +1,21 @@
 -- What is left of a list, by the places of what is left.
-use Rattle.std.proofs.Common.{◌≡◌, ◌==◌, ◌&&◌, ◌||◌, ℕ, zero, suc, ◌+◌, ◌-◌, ◌<◌, ◌≤◌, List, [], ◌∷◌, ◌++◌, Bool, true, false, Option, Some, None, length, take, drop, get_or, position, map, filter, refl, ap, sym, subst, ◌∙◌, arith, cond, if◌then◌else◌, option_map, append_assoc, ltb-true}
-use Rattle.std.specs.Prelude.{not, nat_lt, count_by, nat_le, option_and_then, is_some}
-use Rattle.std.specs.List.{cons_option, remove, slice_get, position_or_len, filter_map, list_any}
+use Rattle.std.proofs.Common.{◌≡◌, ◌&&◌, ◌||◌, ℕ, zero, suc, ◌+◌, ◌<◌, List, [], ◌∷◌, ◌++◌, Bool, true, false, Option, Some, None, length, take, drop, get_or, position, map, filter, refl, ap, sym, subst, ◌∙◌, arith, cond, if◌then◌else◌, option_map, ltb-true}
+use Rattle.std.specs.Prelude.{not, nat_lt, count_by, option_and_then, is_some}
+use Rattle.std.specs.List.{cons_option, remove, slice_get, position_or_len, list_any}
 use Rattle.std.specs.Option.{option_map_or}
 use Rattle.std.proofs.lemmas.List.Sums.{length-filter}
 use Rattle.std.proofs.lemmas.Bool.{lt-ltb}
 use Rattle.conversation_dues.proofs.Steps.{drop_here}
 use Rattle.conversation_reading.specs.declared.entry.WrittenId.{WrittenId}
-use Rattle.conversation_rules.specs.Amounts.{same_id, is_null}
-use Rattle.conversation_rules.specs.Dues.{ids_read, fits_of, fit_of, in_order, array_fits_from, not_null}
+use Rattle.conversation_rules.specs.Amounts.{same_id}
+use Rattle.conversation_rules.specs.Dues.{ids_read}
 use Rattle.conversation_rules.specs.Matching.{without_id, same_ids, taken_by, left_by, nulls_last, leaves_no_request}
-use Rattle.conversation_rules.specs.Owed.{Owed, Due, is_expected, may_have, has_id}
-use Rattle.conversation_rules.specs.declared.found.Fit.{Fit}
-use Rattle.conversation_dues.specs.Left.{IsLeftOf, IsTaken, is_of, ids_of, all_taken, choice, expects_any, expected_of, left_after, left_of}
+use Rattle.conversation_rules.specs.Owed.{Owed, is_expected, may_have, has_id}
+use Rattle.conversation_dues.specs.Left.{IsLeftOf, IsTaken, at_test, is_of, ids_of, all_taken, choice, expects_any, expected_of}
 use Rattle.conversation_dues.specs.declared.arrays.Which.{Which}
 use Rattle.conversation_dues.specs.declared.arrays.Which.TheVariants.{Expected, Named, Nulls}
 
 -- ---- places and what stands there
-
-abbrev pub at_test : {X : Type 0} → (X → Bool) → (ℕ → Option X) → ℕ → Bool
-at_test p at place = option_map_or p (at place) false
 
 same_front : {X : Type 0} (at : ℕ → Option X) (i : ℕ) (x : X) (places : List ℕ) (left : List X) → map at (i ∷ places) ≡ map Some (x ∷ left) → at i ≡ Some x
 same_front at i x places left is = let e : at i ∷ map at places ≡ Some x ∷ map Some left = is in cc

@@ -1,6 +1,8 @@
 pub mod Fits
 pub mod Firsts
+pub mod InLine
 pub mod Left
 pub mod Marked
+pub mod Places
 pub mod Steps
 pub mod Targeted

@@ -14,13 +14,13 @@ use Rattle.conversation_ids.proofs.OneMark.{one_mark}
 use Rattle.conversation_ids.specs.OwedMarks.{has_mark, entry_has, content_has, due_has}
 use Rattle.conversation_reading.specs.declared.entry.WrittenId.{WrittenId}
 use Rattle.conversation_reading.specs.declared.entry.WrittenId.TheVariants.{Null, Text, Number}
-use Rattle.conversation_rules.specs.Amounts.{same_id, is_null}
+use Rattle.conversation_rules.specs.Amounts.{is_null}
 use Rattle.conversation_rules.specs.Dues.{ids_read}
-use Rattle.conversation_rules.specs.Matching.{place_in, taken_by, left_by, nulls_last, same_ids, without_id, is_just, can_be_answered, leaves_no_request, expects_null, is_null_request, is_null_other, is_unnamed, is_request_for}
+use Rattle.conversation_rules.specs.Matching.{place_in, taken_by, left_by, nulls_last, same_ids, is_just, can_be_answered, leaves_no_request, expects_null, is_null_request, is_null_other, is_request_for}
 use Rattle.conversation_rules.specs.Owed.{Owed, Due, has_id, is_expected, may_have}
 use Rattle.conversation_ids.specs.Ways.{fits}
 use Rattle.conversation_ids.specs.declared.ways.Way.{Way}
-use Rattle.conversation_ids.specs.declared.ways.Way.TheVariants.{Asks, Expects, MayHave, MustHave, AsksWithNull, ExpectsNull, Unnamed, MayBeNull}
+use Rattle.conversation_ids.specs.declared.ways.Way.TheVariants.{Asks, Expects, MayHave, AsksWithNull, ExpectsNull, Unnamed, MayBeNull}
 
 or_first : (a b : Bool) → a ≡ true → (a || b) ≡ true
 or_first true b is = refl
@@ -203,7 +203,6 @@ abbrev way_mark : Way → WrittenId → ℕ
 way_mark Asks id = mark_of id
 way_mark Expects id = mark_of id
 way_mark MayHave id = mark_of id
-way_mark MustHave id = mark_of id
 way_mark AsksWithNull id = null_mark
 way_mark ExpectsNull id = null_mark
 way_mark Unnamed id = null_mark
@@ -216,7 +215,6 @@ pub way_none : (way : Way) (id : WrittenId) (owed : Owed) → entry_has (way_mar
 way_none Asks id owed none = unless (entry_has (mark_of id) owed) (is_request_for id owed) (λ is. expected_found id owed (and_second owed.is_request (is_expected id owed) is)) none
 way_none Expects id owed none = unless (entry_has (mark_of id) owed) (is_expected id owed) (expected_found id owed) none
 way_none MayHave id owed none = unless (entry_has (mark_of id) owed) (may_have id owed) (may_found id owed) none
-way_none MustHave id owed none = unless (entry_has (mark_of id) owed) (owed.must && is_expected id owed) (λ is. expected_found id owed (and_second owed.must (is_expected id owed) is)) none
 way_none AsksWithNull id owed none = unless (entry_has null_mark owed) (is_null_request owed) (λ is. null_expected owed (and_second owed.is_request (expects_null owed) is)) none
 way_none ExpectsNull id owed none = other_none owed none
 way_none Unnamed id owed none = ap (λ b. b && option_map_or is_null owed.own true) (other_none owed none)

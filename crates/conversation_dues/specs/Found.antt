@@ -1,5 +1,5 @@
 -- What is found among contents that have numbers.
-use Rattle.std.specs.Prelude.{ℕ, zero, suc, ◌==◌, ◌&&◌, List, [], ◌∷◌, Bool, true, false, Option, Some, None, option_map, if◌then◌else◌}
+use Rattle.std.specs.Prelude.{ℕ, zero, suc, ◌==◌, ◌&&◌, List, [], ◌∷◌, Bool, true, false, Option, Some, None, map, option_map, if◌then◌else◌}
 use Rattle.std.specs.List.{list_any}
 use Rattle.std.specs.Option.{option_map_or}
 use Rattle.conversation_dues.specs.declared.sought.Sought.{Sought}
@@ -32,8 +32,11 @@ abbrev pub first_of : (Due → Option ℕ) → List (ℕ × Due) → Option (ℕ
 first_of place [] = None
 first_of place (entry ∷ entries) = option_map_or (λ at. Some (entry.0, at)) (place entry.1) (first_of place entries)
 
--- the how-manieth content has this number
-abbrev pub index_of : ℕ → List (ℕ × Due) → ℕ
+abbrev pub values_of : {X : Type 0} → List (ℕ × X) → List X
+values_of entries = map (λ entry. entry.1) entries
+
+-- the how-manieth has this number
+abbrev pub index_of : {X : Type 0} → ℕ → List (ℕ × X) → ℕ
 index_of number [] = zero
 index_of number (entry ∷ entries) = if number == entry.0 then zero else suc (index_of number entries)
 

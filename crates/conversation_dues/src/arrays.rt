@@ -1,16 +1,16 @@
 //! What the answers of an array take of a batch.
 
-ghost use Rattle.std.specs.Prelude.{◌≡◌, ◌++◌, ◌∷◌, [], List, Option, Some, false, position, remove, drop, count_by, slice_get, option_map, option_and_then, IfOk, OnOk};
+ghost use Rattle.std.specs.Prelude.{◌≡◌, ◌++◌, ◌∷◌, [], List, Option, Some, false, position, drop, count_by, slice_get, option_map, option_and_then, IfOk, OnOk};
 ghost use Rattle.std.specs.List.{list_any};
 ghost use Rattle.std.specs.Option.{option_map_or};
 ghost use Rattle.conversation_reading.specs.declared.entry.WrittenId.{WrittenId};
 ghost use Rattle.conversation_rules.specs.Dues.{ids_read, array_fits, fits_of, fit_of, in_order, first_or_none};
 ghost use Rattle.conversation_rules.specs.Matching.{taken_by, left_by, nulls_last, leaves_no_request, same_ids, is_just, can_be_answered};
 ghost use Rattle.conversation_rules.specs.Owed.{Owed as OwedValue, is_expected, may_have};
-ghost use Rattle.conversation_dues.specs.Left.{IsLeftOf, IsTaken, all_taken, choice, ids_of, is_of, expects_any, expected_of, left_after, left_of};
-ghost use Rattle.conversation_ids.specs.Ways.{fits};
+ghost use Rattle.conversation_dues.specs.Left.{IsFindable, IsLeftOf, IsTaken, all_taken, are_in_line, choice, expects, ids_of, index_in, is_of, expects_any, expected_of, left_after, left_of, places_of};
 
-use conversation_ids::{Due, Owed, Way, is_null};
+use crate::what_is_left::{Left, Taking};
+use conversation_ids::{Due, Owed, is_null};
 use conversation_reading::WrittenId;
 use conversation_rules::Fit;
 use std::alloc::{AllocError, Global};
@@ -56,11 +56,49 @@ pub(crate) fn is_just(
 fn are_just(alloc: Global, entries: &[Owed], ids: &[Option<WrittenId>]) -> Result<bool, AllocError>
     ensures { IfOk result (λ b. b ≡ same_ids (ids_read ids.now) (expected_of entries.now)) }
 {
-    let mut places = all_places(alloc, entries)?;
-    if !take_all(Which::Expected, ids, entries, &mut places) {
+    if are_in_line(entries, ids) {
+        return Ok(true);
+    }
+    let mut left = Left::all(alloc, entries)?;
+    if !take_all(Which::Expected, ids, entries, &mut left) {
         return Ok(false);
     }
+    let places = left.into_places(alloc)?;
     Ok(!any_expects(entries, places.as_slice()))
+}
+
+/// Whether they are those that the entries expect, one for one, as of a side that answers in order. No index is needed then.
+fn are_in_line(entries: &[Owed], ids: &[Option<WrittenId>]) -> bool
+    ensures { result ≡ are_in_line entries.now ids.now }
+{
+    let mut left = entries;
+    for id in ids {
+        match behind_expected(left, id) {
+            Some(rest) => left = rest,
+            None => return false,
+        }
+    }
+    left.is_empty()
+}
+
+/// The entries behind the first, where that one expects this id.
+fn behind_expected<'a>(entries: &'a [Owed], id: &Option<WrittenId>) -> Option<&'a [Owed]>
+    ensures { (ids : List (Option WrittenId)) → are_in_line entries.now (id.now ∷ ids) ≡
+        option_map_or (λ rest. are_in_line rest.now ids) result false }
+{
+    match entries.split_first() {
+        Some((owed, rest)) if expects(owed, id) => Some(rest),
+        _ => None,
+    }
+}
+
+fn expects(owed: &Owed, id: &Option<WrittenId>) -> bool
+    ensures { result ≡ expects id.now owed.now }
+{
+    match id {
+        Some(id) => owed.is_expected(id),
+        None => false,
+    }
 }
 
 /// Whether an answer is expected of any entry that is left.
@@ -104,13 +142,14 @@ fn leave_no_request(
     ensures { IfOk result (λ b. b ≡ option_map_or (leaves_no_request unnamed)
         (left_by (nulls_last (ids_read ids.now)) entries.now) false) }
 {
-    let mut places = all_places(alloc, entries)?;
-    if !take_all(Which::Named, ids, entries, &mut places) {
+    let mut left = Left::all(alloc, entries)?;
+    if !take_all(Which::Named, ids, entries, &mut left) {
         return Ok(false);
     }
-    if !take_all(Which::Nulls, ids, entries, &mut places) {
+    if !take_all(Which::Nulls, ids, entries, &mut left) {
         return Ok(false);
     }
+    let places = left.into_places(alloc)?;
     Ok(must_count(entries, places.as_slice()) <= unnamed)
 }
 
@@ -133,26 +172,12 @@ fn must_at(entries: &[Owed], place: usize) -> bool
     }
 }
 
-/// The places of all entries.
-fn all_places(alloc: Global, entries: &[Owed]) -> Result<Vec<usize>, AllocError>
-    ensures { IfOk result (λ places. IsLeftOf (slice_get entries.now) places.items entries.now) }
-{
-    let mut places = Vec::new(alloc);
-    for (place, _) in entries.iter().enumerate() {
-        places.push(place)?;
-    }
-    Ok(places)
-}
-
 /// Takes an entry for each of these ids. Answers whether each has one.
-fn take_all(
-    which: Which,
-    ids: &[Option<WrittenId>],
-    entries: &[Owed],
-    places: &mut Vec<usize>,
-) -> bool
-    ensures { (left : List OwedValue) → IsLeftOf (slice_get entries.now) places.old.items left →
-        IsTaken (slice_get entries.now) places.new.items result (all_taken (choice which) (ids_of which ids.now) left) }
+fn take_all(which: Which, ids: &[Option<WrittenId>], entries: &[Owed], places: &mut Left) -> bool
+    requires { IsFindable (slice_get entries.now) places.old }
+    ensures taken { (left : List OwedValue) → IsLeftOf (slice_get entries.now) (places_of places.old) left →
+        IsTaken (slice_get entries.now) (places_of places.new) result (all_taken (choice which) (ids_of which ids.now) left) }
+    ensures findable { IsFindable (slice_get entries.now) places.new }
 {
     for id in ids {
         if !take_one(which, id, entries, places) {
@@ -163,9 +188,11 @@ fn take_all(
 }
 
 /// Takes an entry for this id, if it is one of these. Answers whether it has one.
-fn take_one(which: Which, id: &Option<WrittenId>, entries: &[Owed], places: &mut Vec<usize>) -> bool
-    ensures { (left : List OwedValue) → IsLeftOf (slice_get entries.now) places.old.items left →
-        IsTaken (slice_get entries.now) places.new.items result (all_taken (choice which) (ids_of which (id.now ∷ [])) left) }
+fn take_one(which: Which, id: &Option<WrittenId>, entries: &[Owed], places: &mut Left) -> bool
+    requires { IsFindable (slice_get entries.now) places.old }
+    ensures taken { (left : List OwedValue) → IsLeftOf (slice_get entries.now) (places_of places.old) left →
+        IsTaken (slice_get entries.now) (places_of places.new) result (all_taken (choice which) (ids_of which (id.now ∷ [])) left) }
+    ensures findable { IsFindable (slice_get entries.now) places.new }
 {
     match id {
         Some(id) => !which.is_of(id) || take_chosen(which, id, entries, places),
@@ -173,78 +200,53 @@ fn take_one(which: Which, id: &Option<WrittenId>, entries: &[Owed], places: &mut
     }
 }
 
-fn take_chosen(which: Which, id: &WrittenId, entries: &[Owed], places: &mut Vec<usize>) -> bool
-    ensures { (left : List OwedValue) → IsLeftOf (slice_get entries.now) places.old.items left →
-        IsTaken (slice_get entries.now) places.new.items result (all_taken (choice which) (id.now ∷ []) left) }
+fn take_chosen(which: Which, id: &WrittenId, entries: &[Owed], places: &mut Left) -> bool
+    requires { IsFindable (slice_get entries.now) places.old }
+    ensures taken { (left : List OwedValue) → IsLeftOf (slice_get entries.now) (places_of places.old) left →
+        IsTaken (slice_get entries.now) (places_of places.new) result (all_taken (choice which) (id.now ∷ []) left) }
+    ensures findable { IsFindable (slice_get entries.now) places.new }
 {
-    match choice(which, id, entries, places.as_slice()) {
-        Some(index) => {
-            drop(take_place(places, index));
+    match choice(which, id, entries, places) {
+        Some(number) => {
+            drop(places.take(entries, number));
             true
         }
         None => false,
     }
 }
 
-/// Takes a place out, and answers it.
-fn take_place(places: &mut Vec<usize>, index: usize) -> Option<usize>
-    ensures places { places.new.items ≡ remove places.old.items index }
-    ensures place { result ≡ slice_get places.old.items index }
-{
-    if index < places.len() {
-        Some(places.remove(index))
-    } else {
-        None
-    }
-}
-
-/// Which of the places that are left an answer with this id takes.
-fn choice(which: Which, id: &WrittenId, entries: &[Owed], places: &[usize]) -> Option<usize>
-    ensures { (left : List OwedValue) → IsLeftOf (slice_get entries.now) places.now left →
-        result ≡ choice which id.now left }
+/// The number of the place that is left and that an answer with this id takes.
+fn choice(which: Which, id: &WrittenId, entries: &[Owed], places: &Left) -> Option<u64>
+    requires { IsFindable (slice_get entries.now) places.now }
+    ensures { (left : List OwedValue) → IsLeftOf (slice_get entries.now) (places_of places.now) left →
+        index_in places.now result ≡ choice which id.now left }
 {
     match which {
-        Which::Expected => place_of(entries, places, Way::Expects, id),
+        Which::Expected => places.first(entries, Taking::Expected, id),
         Which::Named | Which::Nulls => taken_by(id, entries, places),
     }
 }
 
-fn taken_by(id: &WrittenId, entries: &[Owed], places: &[usize]) -> Option<usize>
-    ensures { (left : List OwedValue) → IsLeftOf (slice_get entries.now) places.now left →
-        result ≡ taken_by id.now left }
+fn taken_by(id: &WrittenId, entries: &[Owed], places: &Left) -> Option<u64>
+    requires { IsFindable (slice_get entries.now) places.now }
+    ensures { (left : List OwedValue) → IsLeftOf (slice_get entries.now) (places_of places.now) left →
+        index_in places.now result ≡ taken_by id.now left }
 {
-    match place_of(entries, places, Way::MustHave, id) {
-        Some(index) => Some(index),
+    match places.first(entries, Taking::Must, id) {
+        Some(number) => Some(number),
         None => taken_rather(id, entries, places),
     }
 }
 
 /// One that is expected to have the id, rather than one that may have it.
-fn taken_rather(id: &WrittenId, entries: &[Owed], places: &[usize]) -> Option<usize>
-    ensures { (left : List OwedValue) → IsLeftOf (slice_get entries.now) places.now left →
-        result ≡ option_map_or Some (position (is_expected id.now) left) (position (may_have id.now) left) }
+fn taken_rather(id: &WrittenId, entries: &[Owed], places: &Left) -> Option<u64>
+    requires { IsFindable (slice_get entries.now) places.now }
+    ensures { (left : List OwedValue) → IsLeftOf (slice_get entries.now) (places_of places.now) left →
+        index_in places.now result ≡ option_map_or Some (position (is_expected id.now) left) (position (may_have id.now) left) }
 {
-    match place_of(entries, places, Way::Expects, id) {
-        Some(index) => Some(index),
-        None => place_of(entries, places, Way::MayHave, id),
-    }
-}
-
-/// Which of these places is the first whose entry fits.
-fn place_of(entries: &[Owed], places: &[usize], way: Way, id: &WrittenId) -> Option<usize>
-    ensures { result ≡ position (λ place. option_map_or (fits way id.now) (slice_get entries.now place) false) places.now }
-{
-    places
-        .iter()
-        .position(|place| fits_at(entries, *place, way, id))
-}
-
-fn fits_at(entries: &[Owed], place: usize, way: Way, id: &WrittenId) -> bool
-    ensures { result ≡ option_map_or (fits way id.now) (slice_get entries.now place) false }
-{
-    match entries.get(place) {
-        Some(owed) => way.fits(id, owed),
-        None => false,
+    match places.first(entries, Taking::Expected, id) {
+        Some(number) => Some(number),
+        None => places.first(entries, Taking::Allowed, id),
     }
 }
 
@@ -256,7 +258,7 @@ pub(crate) fn array_fits(
 ) -> Result<Vec<Option<Fit>>, AllocError>
     ensures { IfOk result (λ fits. fits.items ≡ array_fits ids.now due.now) }
 {
-    let mut places = all_places(alloc, due.entries())?;
+    let mut places = Left::all(alloc, due.entries())?;
     let mut named = Vec::new(alloc);
     put_fits(Which::Named, ids, due, &mut places, &mut named)?;
     let mut nulls = Vec::new(alloc);
@@ -269,11 +271,13 @@ fn put_fits(
     which: Which,
     ids: &[Option<WrittenId>],
     due: &Due,
-    places: &mut Vec<usize>,
+    places: &mut Left,
     fits: &mut Vec<Option<Fit>>,
 ) -> Result<(), AllocError>
-    ensures { OnOk result ((left : List OwedValue) → IsLeftOf (slice_get due.now.entries) places.old.items left →
-        IsLeftOf (slice_get due.now.entries) places.new.items (left_of (ids_of which ids.now) left)
+    requires { IsFindable (slice_get due.now.entries) places.old }
+    ensures findable { OnOk result (IsFindable (slice_get due.now.entries) places.new) }
+    ensures fits { OnOk result ((left : List OwedValue) → IsLeftOf (slice_get due.now.entries) (places_of places.old) left →
+        IsLeftOf (slice_get due.now.entries) (places_of places.new) (left_of (ids_of which ids.now) left)
         × (fits.new.items ≡ fits.old.items ++ fits_of due.now (ids_of which ids.now) left)) }
 {
     for id in ids {
@@ -286,11 +290,13 @@ fn put_fit(
     which: Which,
     id: &Option<WrittenId>,
     due: &Due,
-    places: &mut Vec<usize>,
+    places: &mut Left,
     fits: &mut Vec<Option<Fit>>,
 ) -> Result<(), AllocError>
-    ensures { OnOk result ((left : List OwedValue) → IsLeftOf (slice_get due.now.entries) places.old.items left →
-        IsLeftOf (slice_get due.now.entries) places.new.items (left_of (ids_of which (id.now ∷ [])) left)
+    requires { IsFindable (slice_get due.now.entries) places.old }
+    ensures findable { OnOk result (IsFindable (slice_get due.now.entries) places.new) }
+    ensures fits { OnOk result ((left : List OwedValue) → IsLeftOf (slice_get due.now.entries) (places_of places.old) left →
+        IsLeftOf (slice_get due.now.entries) (places_of places.new) (left_of (ids_of which (id.now ∷ [])) left)
         × (fits.new.items ≡ fits.old.items ++ fits_of due.now (ids_of which (id.now ∷ [])) left)) }
 {
     match id {
@@ -307,14 +313,16 @@ fn put_fit(
 }
 
 /// Takes the entry that an answer with this id takes of those that are left, and tells of it.
-fn fit_taken(id: &WrittenId, due: &Due, places: &mut Vec<usize>) -> Option<Fit>
-    ensures left { (left : List OwedValue) → IsLeftOf (slice_get due.now.entries) places.old.items left →
-        IsLeftOf (slice_get due.now.entries) places.new.items (left_after (taken_by id.now left) left) }
-    ensures fit { (left : List OwedValue) → IsLeftOf (slice_get due.now.entries) places.old.items left →
+fn fit_taken(id: &WrittenId, due: &Due, places: &mut Left) -> Option<Fit>
+    requires { IsFindable (slice_get due.now.entries) places.old }
+    ensures findable { IsFindable (slice_get due.now.entries) places.new }
+    ensures left { (left : List OwedValue) → IsLeftOf (slice_get due.now.entries) (places_of places.old) left →
+        IsLeftOf (slice_get due.now.entries) (places_of places.new) (left_after (taken_by id.now left) left) }
+    ensures fit { (left : List OwedValue) → IsLeftOf (slice_get due.now.entries) (places_of places.old) left →
         result ≡ option_and_then (λ place. option_map (fit_of due.now) (slice_get left place)) (taken_by id.now left) }
 {
-    match taken_by(id, due.entries(), places.as_slice()) {
-        Some(index) => match take_place(places, index) {
+    match taken_by(id, due.entries(), places) {
+        Some(number) => match places.take(due.entries(), number) {
             Some(place) => due.fit(place),
             None => None,
         },

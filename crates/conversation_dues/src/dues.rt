@@ -1,5 +1,5 @@
 ghost use Rattle.std.specs.Prelude.{◌≡◌, ◌++◌, ◌∷◌, [], map, length, is_some, option_map, IfOk, OnOk, OnErr};
-ghost use Rattle.conversation_rules.specs.Dues.{owed_more, closed, maybe_answered, is_asked, has_cancelled, cancelled_in, settled, found, unreadable_target, array_target, found_batch, settled_batch, unanswered};
+ghost use Rattle.conversation_rules.specs.Dues.{owed_more, closed, may_be_refused, is_asked, has_cancelled, cancelled_in, settled, found, unreadable_target, array_target, found_batch, settled_batch, unanswered};
 ghost use Rattle.conversation_rules.specs.Matching.{named_target, null_target, parse_error_target};
 ghost use Rattle.conversation_rules.specs.Owed.{new_due, unreadable_due};
 
@@ -7,6 +7,7 @@ use crate::settling::{
     settle_batch, settle_named, settle_null, settle_parse_error, settle_unreadable,
 };
 use crate::sought::{Sought, is_there};
+use crate::targets::{has_unreadable, may_be_refused};
 use conversation_ids::Owed;
 use conversation_open::OpenContents;
 use conversation_reading::WrittenId;
@@ -89,11 +90,18 @@ impl Dues {
         self.contents.close();
     }
 
-    /// A content of this side couldn't be read: it may have answered all that is owed.
-    pub fn mark_maybe_answered(&mut self)
-        ensures { self.new ≡ map maybe_answered self.old }
+    /// Whether what is open may be refused whole: a batch, or what a reader may limit.
+    pub fn may_be_refused(&self) -> bool
+        ensures { result ≡ may_be_refused self.now }
     {
-        self.contents.mark_maybe_answered();
+        may_be_refused(&self.contents)
+    }
+
+    /// Whether a content that couldn't be read is open.
+    pub fn has_unreadable(&self) -> bool
+        ensures { result ≡ is_some (unreadable_target self.now) }
+    {
+        has_unreadable(&self.contents)
     }
 
     /// Whether a request with this id is open.

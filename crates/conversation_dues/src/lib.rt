@@ -7,5 +7,6 @@ mod dues;
 mod settling;
 mod sought;
 mod targets;
+mod what_is_left;
 
 pub use dues::Dues;

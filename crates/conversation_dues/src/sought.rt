@@ -114,7 +114,6 @@ fn mark_of_way(way: Way, id: &WrittenId) -> u128
         Way::Asks => mark_of(id),
         Way::Expects => mark_of(id),
         Way::MayHave => mark_of(id),
-        Way::MustHave => mark_of(id),
         Way::AsksWithNull => null_mark(),
         Way::ExpectsNull => null_mark(),
         Way::Unnamed => null_mark(),

@@ -1,14 +1,15 @@
 //! What an answer is for, among the contents on which something is owed.
 
-ghost use Rattle.std.specs.Prelude.{◌≡◌, false, true, position, option_map};
+ghost use Rattle.std.specs.Prelude.{◌≡◌, false, true, position, option_map, is_some};
+ghost use Rattle.std.specs.List.{list_any};
 ghost use Rattle.conversation_dues.specs.Found.{target_at, whole_target};
 ghost use Rattle.conversation_open.specs.Open.{open_entries, contents_of, IsOpen};
 ghost use Rattle.conversation_ids.specs.Ways.{fits};
-ghost use Rattle.conversation_rules.specs.Dues.{unreadable_target};
+ghost use Rattle.conversation_rules.specs.Dues.{may_be_refused, unreadable_target};
 ghost use Rattle.conversation_rules.specs.Matching.{oldest, or_else, is_null_request, is_unnamed, named_in, named_target, null_in, null_target, parse_error_target, refused_batch};
 ghost use Rattle.conversation_rules.specs.declared.found.Target.TheVariants.{WholeOf};
 
-use crate::sought::{Sought, first};
+use crate::sought::{Sought, first, is_there};
 use conversation_ids::Way;
 use conversation_open::OpenContents;
 use conversation_reading::WrittenId;
@@ -140,6 +141,36 @@ pub(crate) fn unreadable_target(contents: &OpenContents) -> Option<Place>
     ensures { unreadable_target (contents_of (open_entries contents.now)) ≡ target_at (open_entries contents.now) result }
 {
     oldest_whole(contents, Sought::Unreadable)
+}
+
+/// Whether there is one.
+pub(crate) fn has_unreadable(contents: &OpenContents) -> bool
+    requires { IsOpen contents.now }
+    ensures { result ≡ is_some (unreadable_target (contents_of (open_entries contents.now))) }
+{
+    unreadable_target(contents).is_some()
+}
+
+/// Whether what is open may be refused whole: a batch, or what a reader may limit.
+pub(crate) fn may_be_refused(contents: &OpenContents) -> bool
+    requires { IsOpen contents.now }
+    ensures { result ≡ may_be_refused (contents_of (open_entries contents.now)) }
+{
+    has_batch(contents) || has_huge(contents)
+}
+
+fn has_batch(contents: &OpenContents) -> bool
+    requires { IsOpen contents.now }
+    ensures { result ≡ list_any (λ due. due.is_batch) (contents_of (open_entries contents.now)) }
+{
+    is_there(contents, Sought::Batch, &WrittenId::Null)
+}
+
+fn has_huge(contents: &OpenContents) -> bool
+    requires { IsOpen contents.now }
+    ensures { result ≡ list_any (λ due. due.has_huge) (contents_of (open_entries contents.now)) }
+{
+    is_there(contents, Sought::Huge, &WrittenId::Null)
 }
 
 /// The oldest content with a number beyond a float's range.

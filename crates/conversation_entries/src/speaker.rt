@@ -14,6 +14,11 @@ pub struct Speaker {
     pub count: u64,
     /// What the other side owes.
     pub owed: Dues,
+    /// A content of the other side couldn't be read, and may have been the answer to what is owed on this content, or on an
+    /// older one: its number, or 0.
+    pub unsure_up_to: u64,
+    /// How many errors with the id null the other side sent that fitted nothing, and may have refused what is owed.
+    pub refused: u64,
     /// The ids that its requests had, and those of `initialize`.
     pub used: UsedIds,
     pub initialize: UsedIds,
@@ -32,6 +37,8 @@ pub fn new_speaker(alloc: Global, ids: u32) -> Speaker
     Speaker {
         count: 0,
         owed: Dues::new(alloc),
+        unsure_up_to: 0,
+        refused: 0,
         used: UsedIds::new(alloc, ids),
         initialize: UsedIds::new(alloc, ids),
         has_exited: false,

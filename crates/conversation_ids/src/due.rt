@@ -1,6 +1,6 @@
 ghost use Rattle.std.specs.Prelude.{◌≡◌, ◌++◌, ◌∷◌, ◌==◌, ◌&&◌, [], not, map, position, remove, slice_get, length, OnOk, OnErr};
 ghost use Rattle.std.specs.List.{list_any};
-ghost use Rattle.conversation_rules.specs.Dues.{is_open, maybe_answered, cancelled, cancelled_in, fit_in, unanswered_of, unanswered_entry};
+ghost use Rattle.conversation_rules.specs.Dues.{is_open, cancelled, cancelled_in, fit_in, unanswered_of, unanswered_entry};
 ghost use Rattle.conversation_rules.specs.Matching.{place_in, is_request_for};
 ghost use Rattle.conversation_rules.specs.Owed.{new_due, unreadable_due};
 ghost use Rattle.conversation_ids.specs.OwedMarks.{content_has, entry_has, due_has};
@@ -23,7 +23,6 @@ pub struct Due {
     is_batch: bool,
     is_unreadable: bool,
     has_huge: bool,
-    may_be_answered: bool,
 }
 
 impl Model for Due {
@@ -38,7 +37,6 @@ impl Model for Due {
       is_batch = d.is_batch;
       is_unreadable = d.is_unreadable;
       has_huge = d.has_huge;
-      may_be_answered = d.may_be_answered;
     } };
 }
 
@@ -53,7 +51,6 @@ impl Due {
             is_batch,
             is_unreadable: false,
             has_huge,
-            may_be_answered: false,
         }
     }
 
@@ -67,7 +64,6 @@ impl Due {
             is_batch: false,
             is_unreadable: true,
             has_huge: false,
-            may_be_answered: false,
         }
     }
 
@@ -186,12 +182,6 @@ impl Due {
         }
     }
 
-    pub fn mark_maybe_answered(&mut self)
-        ensures { self.new ≡ maybe_answered self.old }
-    {
-        self.may_be_answered = true;
-    }
-
     pub fn cancel(&mut self, id: &WrittenId, settles: bool)
         ensures { self.new ≡ cancelled_in settles id.now self.old }
     {
@@ -217,7 +207,7 @@ impl Due {
             number: self.number,
             offset: self.offset,
             entry: owed.place(),
-            may_be_answered: self.may_be_answered,
+            may_be_answered: false,
         }
     }
 }

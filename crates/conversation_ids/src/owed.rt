@@ -218,12 +218,6 @@ impl Owed {
         self.is_request && self.is_expected(id)
     }
 
-    pub fn must_have(&self, id: &WrittenId) -> bool
-        ensures { result ≡ (self.now.must && is_expected id.now self.now) }
-    {
-        self.must && self.is_expected(id)
-    }
-
     /// Whether it is a request with this id whose cancel was seen.
     pub fn is_cancelled_request(&self, id: &WrittenId) -> bool
         ensures { result ≡ (is_request_for id.now self.now && self.now.is_cancelled) }
@@ -264,6 +258,17 @@ impl Owed {
         ensures { result ≡ option_map mark_of self.now.own }
     {
         id_mark(&self.own)
+    }
+
+    /// The mark of the id that its answer is expected to have.
+    pub fn expected_mark(&self) -> Option<u128>
+        ensures { result ≡ option_map mark_of self.now.expected }
+    {
+        match self.expects {
+            Expects::ItsOwn => id_mark(&self.own),
+            Expects::NullId => Some(null_mark()),
+            Expects::Nothing => None,
+        }
     }
 
     /// The mark of the id that stands first.

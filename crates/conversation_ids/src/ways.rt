@@ -13,8 +13,6 @@ pub enum Way {
     Expects,
     /// It may have the id.
     MayHave,
-    /// It must be answered, and is expected to have the id.
-    MustHave,
     /// It is a request with the id null.
     AsksWithNull,
     /// It is no request, and null is expected.
@@ -33,7 +31,6 @@ impl Way {
             Way::Asks => owed.is_request_for(id),
             Way::Expects => owed.is_expected(id),
             Way::MayHave => owed.may_have(id),
-            Way::MustHave => owed.must_have(id),
             Way::AsksWithNull => owed.is_null_request(),
             Way::ExpectsNull => owed.is_null_other(),
             Way::Unnamed => owed.is_unnamed(),

@@ -1,9 +1,10 @@
 //! What a single answer breaks by what is owed, and what it settles.
 
-ghost use Rattle.std.specs.Prelude.{◌≡◌, ◌++◌, ◌∷◌, [], OnOk, false};
+ghost use Rattle.std.specs.Prelude.{◌≡◌, ◌<◌, ◌+◌, ◌^◌, ◌++◌, ◌∷◌, [], OnOk, IfOk, false, true};
 ghost use Rattle.std.specs.Option.{option_map_or};
+ghost use Rattle.conversation_rules.specs.Amounts.{is_null};
 ghost use Rattle.conversation_rules.specs.Answers as rules;
-ghost use Rattle.conversation_rules.specs.Answers.{says_cancelled, is_uncalled, reply_of, cancelled_code_level, fit_findings, stray_of, not_owed_level, not_owed_findings, behind_not_owed, target_of_null, target_of_id, target_of, single_fit_findings, single_findings, behind_single, target_in_array, target_in_array_of_id};
+ghost use Rattle.conversation_rules.specs.Answers.{says_cancelled, is_uncalled, reply_of, cancelled_code_level, fit_findings, stray_of, not_owed_level, not_owed_findings, behind_not_owed, is_refusal, refuses, unfit_findings, refused_by, target_of_null, target_of_id, target_of, single_fit_findings, single_findings, behind_single, refused_behind_single, target_in_array, target_in_array_of_id};
 ghost use Rattle.conversation_rules.specs.Dues as dues;
 ghost use Rattle.conversation_rules.specs.Dues.{settled};
 ghost use Rattle.conversation_rules.specs.Protocols as protocols;
@@ -41,6 +42,15 @@ fn is_uncalled(protocol: Protocol, owed: &Dues, entry: &Entry) -> bool
     is_lsp(protocol) && says_cancelled(entry) && !has_cancelled(owed, &entry.id)
 }
 
+fn has_null(id: &Option<WrittenId>) -> bool
+    ensures { result ≡ option_map_or is_null id.now false }
+{
+    match id {
+        Some(id) => is_null(id),
+        None => false,
+    }
+}
+
 /// What is looked at of an answer, beside its id. `owed` is what its side owes.
 pub(crate) fn reply_of(protocol: Protocol, owed: &Dues, at: u64, entry: &Entry) -> Reply
     ensures { result ≡ reply_of protocol owed.now at entry.now }
@@ -49,6 +59,7 @@ pub(crate) fn reply_of(protocol: Protocol, owed: &Dues, at: u64, entry: &Entry) 
         at,
         is_well: is_well(entry.kind),
         has_error: entry.there.error,
+        is_null: has_null(&entry.id),
         code: code_of(entry),
         is_uncalled: is_uncalled(protocol, owed, entry),
     }
@@ -154,6 +165,48 @@ pub(crate) fn put_stray(
     put_if(true, findings, message, stray.at, Rule::NotOwed, level)
 }
 
+fn is_refusal(reply: Reply) -> bool
+    ensures { result ≡ is_refusal reply }
+{
+    reply.is_well && reply.has_error && reply.is_null
+}
+
+/// Whether an answer that fits nothing counts for a content that was refused.
+fn refuses(refused: u64, reply: Reply, owed: &Dues) -> bool
+    ensures refuses { result ≡ refuses refused reply owed.now }
+    ensures fewer { result ≡ true → refused + 1 < 2 ^ 64 }
+{
+    is_refusal(reply) && !owed.has_unreadable() && owed.may_be_refused() && refused < owed.len()
+}
+
+/// An answer that stands alone and fits nothing. Answers how many count for a content that was refused.
+fn put_unfit(
+    sight: Sight,
+    findings: &mut Vec<Finding>,
+    message: Message,
+    owed: &mut Dues,
+    reply: Reply,
+) -> Result<u64, AllocError>
+    ensures findings { OnOk result (findings.new.items
+        ≡ findings.old.items ++ unfit_findings sight message reply owed.old) }
+    ensures owed { owed.new ≡ behind_not_owed (stray_of reply ∷ []) owed.old }
+    ensures refused { IfOk result (λ refused. refused ≡ refused_by sight.refused reply owed.old) }
+{
+    if refuses(sight.refused, reply, owed) {
+        put_if(
+            true,
+            findings,
+            message,
+            reply.at,
+            Rule::NotOwed,
+            Level::Note,
+        )?;
+        return Ok(sight.refused + 1);
+    }
+    put_stray(sight, findings, message, owed, stray_of(reply))?;
+    Ok(sight.refused)
+}
+
 fn has_batches(protocol: Protocol) -> bool
     ensures { result ≡ protocols.has_batches protocol }
 {
@@ -228,7 +281,7 @@ fn settle_id_in_array(owed: &mut Dues, reply: Reply, id: &WrittenId) -> Option<F
     }
 }
 
-/// An answer that stands alone.
+/// An answer that stands alone. Answers how many count for a content that was refused.
 pub(crate) fn put_single(
     protocol: Protocol,
     sight: Sight,
@@ -237,16 +290,18 @@ pub(crate) fn put_single(
     owed: &mut Dues,
     reply: Reply,
     id: &Option<WrittenId>,
-) -> Result<(), AllocError>
+) -> Result<u64, AllocError>
     ensures findings { OnOk result (findings.new.items
         ≡ findings.old.items ++ single_findings protocol sight message reply id.now owed.old) }
     ensures owed { owed.new ≡ behind_single protocol reply id.now owed.old }
+    ensures refused { IfOk result (λ refused. refused ≡ refused_behind_single protocol sight.refused reply id.now owed.old) }
 {
     match settle_single(protocol, owed, reply, id) {
-        None => put_stray(sight, findings, message, owed, stray_of(reply)),
-        Some(Found::Whole) => Ok(()),
-        Some(Found::Entry(fit)) => put_single_fit(protocol, sight, findings, message, reply, fit),
+        None => return put_unfit(sight, findings, message, owed, reply),
+        Some(Found::Whole) => {}
+        Some(Found::Entry(fit)) => put_single_fit(protocol, sight, findings, message, reply, fit)?,
     }
+    Ok(sight.refused)
 }
 
 fn put_single_fit(

@@ -27,6 +27,7 @@ fn sight_of(own: &Speaker, other: &Speaker) -> Sight
     Sight {
         is_broken: own.is_over || other.is_over,
         has_unreadable: other.has_unreadable,
+        refused: other.refused,
     }
 }
 
@@ -47,7 +48,7 @@ fn take_unreadable(
     put_if(true, findings, message, 0, rule, level)?;
     own.owed.open_unreadable(message.number, message.offset)?;
     own.has_unreadable = true;
-    other.owed.mark_maybe_answered();
+    other.unsure_up_to = other.count;
     Ok(())
 }
 
@@ -85,13 +86,13 @@ fn put_if_answer(
 ) -> Result<(), AllocError>
     ensures findings { OnOk result (findings.new.items ≡ findings.old.items
         ++ rules.single_answer_findings protocol sight message entry.now (said other.old)) }
-    ensures other { OnOk result (said other.new ≡ rules.single_other protocol entry.now (said other.old)) }
+    ensures other { OnOk result (said other.new ≡ rules.single_other protocol sight entry.now (said other.old)) }
 {
     if !is_answer(entry.kind) {
         return Ok(());
     }
     let reply = reply_of(protocol, &other.owed, 0, entry);
-    put_single(
+    other.refused = put_single(
         protocol,
         sight,
         findings,
@@ -99,7 +100,8 @@ fn put_if_answer(
         &mut other.owed,
         reply,
         &entry.id,
-    )
+    )?;
+    Ok(())
 }
 
 /// `[]`.
@@ -378,6 +380,7 @@ pub(crate) fn take_content(
 {
     let reading = reader.read(frame.foreign, frame.content.as_slice())?;
     own.count = own.count.saturating_add(1);
+    own.refused = own.refused.min(own.owed.len());
     let message = Message {
         side,
         number: own.count,

@@ -132,7 +132,12 @@ impl Judge {
             (seen : List Seen) (told : List FindingValue) → Stands protocol framing limits self.old seen told →
             Stands protocol framing limits self.new seen (told ++ option_to_list result) }
     {
-        self.findings.pop_front()
+        let finding = self.findings.pop_front();
+        // The room of many findings isn't kept for those to come: a side that breaks a rule in each message is rare.
+        if self.findings.is_empty() {
+            self.findings = VecDeque::new(self.alloc);
+        }
+        finding
     }
 
     fn see_bytes(&mut self, side: Side, bytes: &[u8]) -> Result<(), AllocError>

@@ -1,11 +1,11 @@
 //! What a side wrote, and how it ended.
 
-ghost use Rattle.std.specs.Prelude.{◌≡◌, ◌++◌, OnOk, IfOk, None, Some, is_some, map};
+ghost use Rattle.std.specs.Prelude.{◌≡◌, ◌++◌, ◌==◌, OnOk, IfOk, None, Some, is_some, map, true, if◌then◌else◌};
 ghost use Rattle.content_streams.specs.Streams.{next_placed, close_of};
 ghost use Rattle.conversation_entries.specs.Said.{said};
 ghost use Rattle.conversation_judge.specs.Said.{pair, next_findings, behind_next, stream_behind_next, ended_as, state};
 ghost use Rattle.conversation_rules.specs.Judging as rules;
-ghost use Rattle.conversation_rules.specs.Judging.{contents_findings, behind_contents, new_contents, all_taken, fault_findings, fed, wrote_findings, behind_wrote, ended_stream, unanswered_findings, ended_findings, behind_ended};
+ghost use Rattle.conversation_rules.specs.Judging.{contents_findings, behind_contents, new_contents, all_taken, fault_findings, fed, wrote_findings, behind_wrote, ended_stream, unanswered_findings, maybe_answered, may_be_refused, ended_findings, behind_ended};
 
 use crate::answers::or_note;
 use crate::contents::take_content;
@@ -94,8 +94,11 @@ fn fault_rule(fault: FrameFault) -> Rule
     ensures { result ≡ rules.fault_rule fault }
 {
     match fault {
-        FrameFault::BadHead | FrameFault::TwoLengths | FrameFault::NoLength => Rule::Head,
-        FrameFault::BadLength | FrameFault::TooLarge | FrameFault::HeadTooLong => Rule::NotJudged,
+        FrameFault::BadHead
+        | FrameFault::BadLength
+        | FrameFault::TwoLengths
+        | FrameFault::NoLength => Rule::Head,
+        FrameFault::LongLength | FrameFault::TooLarge | FrameFault::HeadTooLong => Rule::NotJudged,
         FrameFault::Truncated => Rule::CutOff,
     }
 }
@@ -105,10 +108,11 @@ fn fault_level(fault: FrameFault) -> Level
 {
     match fault {
         FrameFault::BadHead
+        | FrameFault::BadLength
         | FrameFault::TwoLengths
         | FrameFault::NoLength
         | FrameFault::Truncated => Level::Must,
-        FrameFault::BadLength | FrameFault::TooLarge | FrameFault::HeadTooLong => Level::Note,
+        FrameFault::LongLength | FrameFault::TooLarge | FrameFault::HeadTooLong => Level::Note,
     }
 }
 
@@ -211,20 +215,51 @@ fn unanswered_finding(side: Side, how: HowEnded, is_broken: bool, request: Unans
     }
 }
 
+/// As many contents as `asker` says may have been refused: those of the oldest requests count as such.
 fn put_each_unanswered(
     side: Side,
     how: HowEnded,
     is_broken: bool,
     findings: &mut Vec<Finding>,
+    asker: &Speaker,
     requests: &[Unanswered],
 ) -> Result<(), AllocError>
     ensures { OnOk result (findings.new.items ≡ findings.old.items
-        ++ map (rules.unanswered_finding side how is_broken) requests.now) }
+        ++ map (rules.unanswered_finding side how is_broken) (may_be_refused asker.now.refused 0
+        (map (maybe_answered asker.now.unsure_up_to) requests.now))) }
 {
+    let mut refused = asker.refused;
+    let mut number = 0;
     for request in requests {
-        findings.push(unanswered_finding(side, how, is_broken, *request))?;
+        if refused > 0 && request.number != number {
+            refused -= 1;
+            number = request.number;
+        }
+        let request = maybe_answered(*request, asker.unsure_up_to);
+        let request = may_be_refused(request, number);
+        findings.push(unanswered_finding(side, how, is_broken, request))?;
     }
     Ok(())
+}
+
+/// What couldn't be read may have been the answer to what came up to a content.
+fn maybe_answered(request: Unanswered, unsure_up_to: u64) -> Unanswered
+    ensures { result ≡ maybe_answered unsure_up_to request }
+{
+    Unanswered {
+        may_be_answered: request.number <= unsure_up_to,
+        ..request
+    }
+}
+
+/// A request of the content with this number may have been refused.
+fn may_be_refused(request: Unanswered, number: u64) -> Unanswered
+    ensures { result ≡ (if request.number == number then record request { may_be_answered = true } else request) }
+{
+    Unanswered {
+        may_be_answered: request.may_be_answered || request.number == number,
+        ..request
+    }
 }
 
 /// Whether it is the client, and ends the session: in LSP it sent `exit`, and in MCP it does so by its end.
@@ -254,7 +289,7 @@ fn put_unanswered(
     }
     let requests = other.owed.unanswered()?;
     let is_broken = own.is_over || other.is_over;
-    put_each_unanswered(side, how, is_broken, findings, requests.as_slice())
+    put_each_unanswered(side, how, is_broken, findings, other, requests.as_slice())
 }
 
 /// A side that hasn't ended does.
@@ -284,6 +319,7 @@ fn take_end(
     put_unanswered(protocol, side, how, findings, own, other)?;
     own.has_ended = true;
     other.owed.clear();
+    other.refused = 0;
     Ok(())
 }
 

@@ -16,7 +16,7 @@ use Rattle.conversation_open.specs.declared.numbers_by_mark.NumbersByMark.{Numbe
 use Rattle.conversation_ids.specs.OwedMarks.{has_mark, entry_has, content_has, due_has}
 use Rattle.conversation_reading.specs.declared.entry.WrittenId.{WrittenId}
 use Rattle.conversation_rules.specs.Amounts.{same_id}
-use Rattle.conversation_rules.specs.Dues.{cancelled, cancelled_in, maybe_answered}
+use Rattle.conversation_rules.specs.Dues.{cancelled, cancelled_in}
 use Rattle.conversation_rules.specs.Matching.{is_request_for}
 use Rattle.conversation_rules.specs.Owed.{Owed, Due}
 
@@ -227,12 +227,6 @@ pub indexed_cancelled : (index : NumbersByMark) (now was : List (ℕ × Due)) (n
 indexed_cancelled index now was number settles id indexed is =
     indexed_changed index index now was number (cancelled_in settles id) indexed is
     (λ due there mark holds. indexed number due there mark (sym (cancelled_marks mark settles id due) ∙ holds))
-    (λ mark k apart there. there)
-
-pub indexed_marked : (index : NumbersByMark) (now was : List (ℕ × Due)) (number : ℕ) → IsIndexed index was → now ≡ changed_at number maybe_answered was → IsIndexed index now
-indexed_marked index now was number indexed is =
-    indexed_changed index index now was number maybe_answered indexed is
-    (λ due there mark holds. indexed number due there mark holds)
     (λ mark k apart there. there)
 
 -- what isn't left of a content is forgotten

@@ -2,7 +2,7 @@
 
 ghost use Rattle.std.specs.Prelude.{◌≡◌, OnOk, OnErr, slice_get, option_and_then};
 ghost use Rattle.conversation_open.specs.Open.{and_owed, and_removed};
-ghost use Rattle.conversation_rules.specs.Dues.{cancelled_in, maybe_answered};
+ghost use Rattle.conversation_rules.specs.Dues.{cancelled_in};
 ghost use Rattle.number_windows.specs.Numbered.{at, changed_at};
 ghost use Rattle.number_windows.specs.Windows.{window_entries, IsWindow};
 
@@ -69,18 +69,6 @@ pub(crate) fn cancel_at(
 {
     if let Ok(mut due) = dues.replace(number, stand_in(alloc)) {
         due.cancel(id, settles);
-        drop(dues.replace(number, due));
-    }
-}
-
-/// A content that couldn't be read may have answered what is owed on this one.
-pub(crate) fn mark_at(alloc: Global, dues: &mut NumberWindow<Due>, number: u64)
-    requires { IsWindow dues.old }
-    ensures entries { window_entries dues.new ≡ changed_at number maybe_answered (window_entries dues.old) }
-    ensures window { IsWindow dues.new }
-{
-    if let Ok(mut due) = dues.replace(number, stand_in(alloc)) {
-        due.mark_maybe_answered();
         drop(dues.replace(number, due));
     }
 }

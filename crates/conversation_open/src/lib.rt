@@ -6,4 +6,5 @@ mod marking;
 mod numbers_by_mark;
 mod open_contents;
 
+pub use numbers_by_mark::NumbersByMark;
 pub use open_contents::OpenContents;

@@ -4,9 +4,9 @@ use std::alloc::{AllocError, Global};
 use std::collections::BTreeSet;
 use std::ops::Bound;
 
-/// Numbers by marks.
+/// Numbers by marks. Each call takes a logarithm of how many pairs of a mark and a number there are.
 #[derive(Drop)]
-pub(crate) struct NumbersByMark {
+pub struct NumbersByMark {
     /// The mark first and then the number, so those of one mark stand together.
     pairs: BTreeSet<(u128, u64)>,
 }
@@ -14,7 +14,8 @@ pub(crate) struct NumbersByMark {
 impl NumbersByMark {
     ghost use Rattle.conversation_open.specs.Marked.{has_number};
 
-    pub(crate) fn new(alloc: Global) -> NumbersByMark
+    /// Takes no memory.
+    pub fn new(alloc: Global) -> NumbersByMark
         ensures { (mark number : ℕ) → has_number result mark number ≡ false }
     {
         NumbersByMark {
@@ -22,7 +23,8 @@ impl NumbersByMark {
         }
     }
 
-    pub(crate) fn add(&mut self, mark: u128, number: u64) -> Result<(), AllocError>
+    /// A number stands under a mark too.
+    pub fn add(&mut self, mark: u128, number: u64) -> Result<(), AllocError>
         ensures ok { OnOk result ((m n : ℕ) → has_number self.new m n ≡
             (if (mark == m) && (number == n) then true else has_number self.old m n)) }
         ensures err { OnErr result ((m n : ℕ) → has_number self.new m n ≡ has_number self.old m n) }
@@ -31,7 +33,8 @@ impl NumbersByMark {
         Ok(())
     }
 
-    pub(crate) fn remove(&mut self, mark: u128, number: u64)
+    /// A number stands under a mark no longer.
+    pub fn remove(&mut self, mark: u128, number: u64)
         ensures { (m n : ℕ) → has_number self.new m n ≡
             (if (mark == m) && (number == n) then false else has_number self.old m n) }
     {
@@ -39,7 +42,7 @@ impl NumbersByMark {
     }
 
     /// The least number of this mark above `after`.
-    pub(crate) fn next(&self, mark: u128, after: u64) -> Option<u64>
+    pub fn next(&self, mark: u128, after: u64) -> Option<u64>
         ensures { MatchOption result
             ((n : ℕ) → after < n → has_number self.now mark n ≡ false)
             (λ number. (after < number) × (has_number self.now mark number ≡ true) ×

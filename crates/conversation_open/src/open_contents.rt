@@ -1,11 +1,11 @@
 ghost use Rattle.std.specs.Prelude.{◌≡◌, ◌<◌, ◌++◌, ◌∷◌, [], map, length, true, false, is_some, OnOk, OnErr, MatchOption, option_and_then, option_copied};
 ghost use Rattle.std.specs.Option.{option_map_or};
 ghost use Rattle.conversation_open.specs.Open.{open_entries, contents_of, IsOpen, IsNoneBetween, IsNoneBehind, last_number, is_open_at, is_empty, settled_at, and_removed, unanswered_at};
-ghost use Rattle.conversation_rules.specs.Dues.{owed_more, closed, maybe_answered, cancelled_in, fit_in, unanswered};
+ghost use Rattle.conversation_rules.specs.Dues.{owed_more, closed, cancelled_in, fit_in, unanswered};
 ghost use Rattle.conversation_rules.specs.Owed.{new_due, unreadable_due};
 ghost use Rattle.number_windows.specs.Numbered.{at, without, changed_at};
 
-use crate::in_window::{cancel_at, mark_at, push_at, take_at};
+use crate::in_window::{cancel_at, push_at, take_at};
 use crate::marking::{forget_content, forget_entry, note_content, note_entry};
 use crate::numbers_by_mark::NumbersByMark;
 use conversation_ids::{Due, Owed, mark_of};
@@ -142,19 +142,6 @@ impl OpenContents {
         }
     }
 
-    /// A content of the other side couldn't be read: it may have answered all that is owed.
-    pub fn mark_maybe_answered(&mut self)
-        requires { IsOpen self.old }
-        ensures entries { contents_of (open_entries self.new) ≡ map maybe_answered (contents_of (open_entries self.old)) }
-        ensures stands { IsOpen self.new }
-    {
-        let mut after = 0;
-        while let Some(number) = self.dues.next(after) {
-            self.mark_in(number);
-            after = number;
-        }
-    }
-
     /// A cancel of the requests with this id was seen.
     pub fn cancel(&mut self, id: &WrittenId, settles: bool)
         requires { IsOpen self.old }
@@ -167,14 +154,6 @@ impl OpenContents {
             self.cancel_in(number, id, settles);
             after = number;
         }
-    }
-
-    fn mark_in(&mut self, number: u64)
-        requires { IsOpen self.old }
-        ensures entries { open_entries self.new ≡ changed_at number maybe_answered (open_entries self.old) }
-        ensures stands { IsOpen self.new }
-    {
-        mark_at(self.alloc, &mut self.dues, number);
     }
 
     fn cancel_in(&mut self, number: u64, id: &WrittenId, settles: bool)

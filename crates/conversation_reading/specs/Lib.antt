@@ -2,6 +2,7 @@ pub mod First
 pub mod Fronts
 pub mod Huge
 pub mod Inner
+pub mod Nesting
 pub mod Numbers
 pub mod Rows
 pub mod Strictly

@@ -7,6 +7,7 @@ use Rattle.json.specs.Find.{get, as_str, as_number}
 use Rattle.json_texts.specs.Texts.{json_text, value_of}
 use Rattle.conversation_reading.specs.Fronts.{is_json, front_of}
 use Rattle.conversation_reading.specs.Huge.{has_huge}
+use Rattle.conversation_reading.specs.Nesting.{is_deep_request}
 use Rattle.conversation_reading.specs.Numbers.{is_whole}
 use Rattle.conversation_reading.specs.Targets.{target_by, target_in}
 use Rattle.conversation_reading.specs.Twice.{has_twice, first_of}
@@ -127,8 +128,11 @@ is_message Answer = true
 is_message BrokenAnswer = false
 is_message Invalid = false
 
+abbrev pub kind_in : Json → Kind
+kind_in j = kind_of (there_in j) (has_fault (faults_of j)) (has_twice j)
+
 abbrev pub entry_of : Json → Entry
-entry_of j = record { kind = kind_of (there_in j) (has_fault (faults_of j)) (has_twice j); there = there_in j; faults = faults_of j; id = id_in j; method = method_in j; params = option_map json_text (get (codes "params") j); code = option_and_then code_in (get (codes "error") j); target = target_in j; first = first_in j; has_huge = has_huge j || has_twice j }
+entry_of j = record { kind = kind_in j; there = there_in j; faults = faults_of j; id = id_in j; method = method_in j; params = option_map json_text (get (codes "params") j); code = option_and_then code_in (get (codes "error") j); target = target_in j; first = first_in j; has_huge = has_huge j || (has_twice j || is_deep_request (kind_in j) j) }
 
 abbrev pub entries_of : Items → List Entry
 entries_of no_items = []

@@ -71,7 +71,7 @@ pub struct Entry {
     pub target: Option<WrittenId>,
     /// Where a member of it stands twice, what the first ones say.
     pub first: Option<First>,
-    /// Whether a reader may refuse it all: a number in it is beyond a float's range, as 1e400, or a member of it stands
-    /// twice (RFC 8259, sections 4 and 6).
+    /// Whether a reader may refuse it all: a number in it is beyond a float's range, as 1e400, a member of it stands twice,
+    /// or it is a request that nests deeper than 31 (RFC 8259, sections 4, 6 and 9).
     pub has_huge: bool,
 }

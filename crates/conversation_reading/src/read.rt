@@ -8,6 +8,7 @@ ghost use Rattle.json.specs.Tree.{HasNumbers, ItemsHaveNumbers};
 ghost use Rattle.json.specs.Value.{value_view, items_view};
 ghost use Rattle.json_texts.specs.Texts.{json_text};
 ghost use Rattle.conversation_reading.specs.Huge.{has_huge};
+ghost use Rattle.conversation_reading.specs.Nesting.{is_deep_request};
 ghost use Rattle.conversation_reading.specs.Inner.{AreMembers};
 ghost use Rattle.conversation_reading.specs.Numbers.{is_whole};
 ghost use Rattle.conversation_reading.specs.Strictly.{there_in, is_object, written_id, are_unfit, code_in, is_error, is_unfit_error, call_faults, answer_faults, faults_of, has_fault, first_by, kind_of, entry_of, entries_of};
@@ -16,6 +17,7 @@ use crate::entry::{Entry, Faults, Kind, There, WrittenId};
 use crate::first::First;
 use crate::huge::has_huge;
 use crate::lookup::{Members, first_of, members_of};
+use crate::nesting::is_deep_request;
 use crate::number::is_whole;
 use crate::target::read_target;
 use json::Value;
@@ -43,8 +45,9 @@ pub(crate) fn read_entry(alloc: Global, value: &Value<'_>) -> Result<Entry, Allo
     let members = members_of(value);
     let there = there_among(value, &members);
     let faults = faults_of(value, &members);
+    let kind = kind_of(&there, has_fault(&faults), members.is_twice);
     Ok(Entry {
-        kind: kind_of(&there, has_fault(&faults), members.is_twice),
+        kind,
         there,
         faults,
         id: read_id(alloc, members.id)?,
@@ -53,7 +56,7 @@ pub(crate) fn read_entry(alloc: Global, value: &Value<'_>) -> Result<Entry, Allo
         code: copied(alloc, code_among(members.error))?,
         target: read_target(alloc, members.method, members.params)?,
         first: read_first(alloc, value, members.is_twice)?,
-        has_huge: may_be_refused(value, members.is_twice),
+        has_huge: may_be_refused(value, members.is_twice, kind),
     })
 }
 
@@ -71,10 +74,10 @@ fn read_first(alloc: Global, value: &Value<'_>, is_twice: bool) -> Result<Option
 }
 
 /// Whether a reader may refuse it all.
-fn may_be_refused(value: &Value<'_>, is_twice: bool) -> bool
-    ensures { result ≡ (has_huge (value_view value.now) || is_twice) }
+fn may_be_refused(value: &Value<'_>, is_twice: bool, kind: Kind) -> bool
+    ensures { result ≡ (has_huge (value_view value.now) || (is_twice || is_deep_request kind (value_view value.now))) }
 {
-    has_huge(value) || is_twice
+    has_huge(value) || is_twice || is_deep_request(kind, value)
 }
 
 fn there_among(value: &Value<'_>, members: &Members<'_, '_>) -> There

@@ -6,6 +6,7 @@ ghost use Rattle.json.specs.Value.{value_view};
 ghost use Rattle.json_texts.specs.Texts.{value_of};
 ghost use Rattle.conversation_reading.specs.Fronts.{is_json};
 ghost use Rattle.conversation_reading.specs.Strictly.{value_reading, unreadable, json_reading, reading_of};
+ghost use Rattle.conversation_reading.specs.declared.nesting.TheConstants.{SAFE_DEPTH};
 ghost use Rattle.conversation_reading.specs.declared.reading.TheConstants.{MOST_DEPTH_IN};
 
 use crate::entry::Entry;
@@ -19,9 +20,9 @@ use std::alloc::{AllocError, Global};
 /// A content that nests deeper isn't read, each array or object counting one.
 pub const MOST_DEPTH_IN: usize = 127;
 
-/// The limit in figures. All other definitions and clauses cite the constant.
-pub fn limit_of_depth_in_figures()
-    ensures { MOST_DEPTH_IN ≡ 127 }
+/// The limits in figures. All other definitions and clauses cite the constants.
+pub fn limits_of_depth_in_figures()
+    ensures { (MOST_DEPTH_IN ≡ 127) × (SAFE_DEPTH ≡ 31) }
 {}
 
 /// The room that reading takes is kept from one content to the next where the content is at most this long, in bytes.

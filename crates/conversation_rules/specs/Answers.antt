@@ -1,12 +1,12 @@
 -- What answers break by what is owed (JSON-RPC 2.0, sections 4.1, 5 and 6; LSP and MCP, cancellation), and what they settle.
-use Rattle.std.specs.Prelude.{ℕ, ◌&&◌, ◌||◌, not, List, [], ◌∷◌, ◌++◌, length, ◌==◌, Bool, true, false, Option, Some, None, is_some, if◌then◌else◌}
+use Rattle.std.specs.Prelude.{ℕ, ◌&&◌, ◌||◌, not, List, [], ◌∷◌, ◌++◌, length, ◌==◌, nat_lt, suc, Bool, true, false, Option, Some, None, is_some, if◌then◌else◌}
 use Rattle.std.specs.List.{list_any}
-use Rattle.std.specs.Option.{option_map_or}
+use Rattle.std.specs.Option.{option_map_or, is_none}
 use Rattle.conversation_reading.specs.declared.entry.Entry.{Entry}
 use Rattle.conversation_reading.specs.declared.entry.WrittenId.{WrittenId}
 use Rattle.conversation_rules.specs.Amounts.{is_null}
 use Rattle.conversation_rules.specs.Dues as dues
-use Rattle.conversation_rules.specs.Dues.{has_cancelled, settled, settled_batch, array_target, found_batch, unreadable_target}
+use Rattle.conversation_rules.specs.Dues.{may_be_refused, has_cancelled, settled, settled_batch, array_target, found_batch, unreadable_target}
 use Rattle.conversation_rules.specs.Entries.{is_well, is_between, code_of}
 use Rattle.conversation_rules.specs.Matching.{named_target, null_target, parse_error_target}
 use Rattle.conversation_rules.specs.Owed.{Due}
@@ -35,7 +35,7 @@ is_uncalled protocol owed entry = is_lsp protocol && says_cancelled entry && not
 
 -- what is looked at of an answer that stands at a place, beside its id
 abbrev pub reply_of : Protocol → List Due → ℕ → Entry → Reply
-reply_of protocol owed at entry = record { at = at; is_well = is_well entry.kind; has_error = entry.there.error; code = code_of entry; is_uncalled = is_uncalled protocol owed entry }
+reply_of protocol owed at entry = record { at = at; is_well = is_well entry.kind; has_error = entry.there.error; is_null = option_map_or is_null entry.id false; code = code_of entry; is_uncalled = is_uncalled protocol owed entry }
 
 abbrev pub has_code : ℕ → Reply → Bool
 has_code size reply = option_map_or (is_between size size) reply.code false
@@ -81,6 +81,23 @@ not_owed_findings sight message strays owed = if are_told strays then each_not_o
 abbrev pub behind_not_owed : List Stray → List Due → List Due
 behind_not_owed strays owed = if are_told strays then settled (unreadable_target owed) owed else owed
 
+-- ---- an error with the id null, alone, that fits nothing. Its side may have refused a content whole for its limits: a batch,
+-- as one of too many entries (JSON-RPC 2.0, section 6: a batch that isn't recognized is answered by a single response), or one
+-- that nests deep (RFC 8259, section 9). Which one isn't known, so all stay owed, and each such error counts for one of those
+-- that are.
+
+abbrev pub is_refusal : Reply → Bool
+is_refusal reply = reply.is_well && (reply.has_error && reply.is_null)
+
+abbrev pub refuses : ℕ → Reply → List Due → Bool
+refuses refused reply owed = is_refusal reply && (not (is_some (unreadable_target owed)) && (may_be_refused owed && nat_lt refused (length owed)))
+
+abbrev pub unfit_findings : Sight → Message → Reply → List Due → List Finding
+unfit_findings sight message reply owed = if refuses sight.refused reply owed then found message reply.at rules.NotOwed Note ∷ [] else not_owed_findings sight message (stray_of reply ∷ []) owed
+
+abbrev pub refused_by : ℕ → Reply → List Due → ℕ
+refused_by refused reply owed = if refuses refused reply owed then suc refused else refused
+
 -- ---- a single answer
 
 abbrev pub may_refuse : Protocol → Reply → Bool
@@ -103,7 +120,7 @@ single_fit_findings protocol sight message reply fit =
 
 -- by what it is found for, and what is still owed then
 abbrev pub single_findings_of : Protocol → Sight → Message → Reply → List Due → Option Found → List Finding
-single_findings_of protocol sight message reply rest None = not_owed_findings sight message (stray_of reply ∷ []) rest
+single_findings_of protocol sight message reply rest None = unfit_findings sight message reply rest
 single_findings_of protocol sight message reply rest (Some Whole) = []
 single_findings_of protocol sight message reply rest (Some (EntryFit fit)) = single_fit_findings protocol sight message reply fit
 
@@ -116,6 +133,13 @@ single_findings protocol sight message reply id owed = single_findings_of protoc
 abbrev pub behind_found : Reply → List Due → Option Found → List Due
 behind_found reply rest None = behind_not_owed (stray_of reply ∷ []) rest
 behind_found reply rest (Some found) = rest
+
+abbrev pub refused_behind : ℕ → Reply → List Due → Option Found → ℕ
+refused_behind refused reply rest None = refused_by refused reply rest
+refused_behind refused reply rest (Some found) = refused
+
+abbrev pub refused_behind_single : Protocol → ℕ → Reply → Option WrittenId → List Due → ℕ
+refused_behind_single protocol refused reply id owed = refused_behind refused reply (rest_of protocol reply id owed) (dues.found (target_of protocol reply id owed) owed)
 
 abbrev pub behind_single : Protocol → Reply → Option WrittenId → List Due → List Due
 behind_single protocol reply id owed = behind_found reply (rest_of protocol reply id owed) (dues.found (target_of protocol reply id owed) owed)

@@ -1,5 +1,5 @@
 -- What a content breaks, and what is kept of it.
-use Rattle.std.specs.Prelude.{ℕ, suc, ◌+◌, ◌&&◌, ◌||◌, not, List, [], ◌∷◌, ◌++◌, map, Bool, true, false, Option, Some, None, if◌then◌else◌}
+use Rattle.std.specs.Prelude.{ℕ, suc, ◌+◌, ◌&&◌, ◌||◌, not, List, [], ◌∷◌, ◌++◌, length, min, Bool, true, false, Option, Some, None, if◌then◌else◌}
 use Rattle.std.specs.List.{list_all, list_any}
 use Rattle.std.specs.Option.{option_map_or}
 use Rattle.lsp_frames.specs.declared.frame.Frame.{Frame}
@@ -11,8 +11,8 @@ use Rattle.conversation_reading.specs.declared.reading.Reading.{Reading}
 use Rattle.conversation_reading.specs.declared.reading.Reading.TheVariants.{Foreign, NotText, NotJson, TooDeep, HalfPair, Single, Array}
 use Rattle.conversation_rules.specs.declared.reply.Reply.{Reply}
 use Rattle.conversation_rules.specs.declared.reply.Sight.{Sight}
-use Rattle.conversation_rules.specs.Answers.{reply_of, single_findings, behind_single, answers_findings, behind_answers}
-use Rattle.conversation_rules.specs.Dues.{closed, maybe_answered, owed_more}
+use Rattle.conversation_rules.specs.Answers.{reply_of, single_findings, refused_behind_single, behind_single, answers_findings, behind_answers}
+use Rattle.conversation_rules.specs.Dues.{closed, owed_more}
 use Rattle.conversation_rules.specs.Entries.{is_answer, entry_findings, behind_entry}
 use Rattle.conversation_rules.specs.Owed.{Due, new_due, unreadable_due, empty_array_owed}
 use Rattle.conversation_rules.specs.Protocols.{batch_level}
@@ -40,7 +40,7 @@ not_json_rule is_unfinished = if is_unfinished then rules.CutOff else rules.NotJ
 abbrev pub unreadable_pair : Message → Pair → Pair
 unreadable_pair message pair = record {
   own = record pair.own { owed = pair.own.owed ++ unreadable_due message.number message.offset ∷ []; has_unreadable = true };
-  other = record pair.other { owed = map maybe_answered pair.other.owed };
+  other = record pair.other { unsure_up_to = pair.other.count };
 }
 
 abbrev pub unreadable : Message → Pair → Rule → Level → Outcome
@@ -49,7 +49,7 @@ unreadable message pair rule level = record { findings = found message 0 rule le
 -- ---- a content that is read
 
 abbrev pub sight_of : Pair → Sight
-sight_of pair = record { is_broken = pair.own.is_over || pair.other.is_over; has_unreadable = pair.other.has_unreadable }
+sight_of pair = record { is_broken = pair.own.is_over || pair.other.is_over; has_unreadable = pair.other.has_unreadable; refused = pair.other.refused }
 
 -- what is owed on it stands last, and is added to entry by entry
 abbrev pub opened : Message → Bool → Bool → Speaker → Speaker
@@ -63,8 +63,11 @@ shut own = record own { owed = closed own.owed }
 abbrev pub single_own : Protocol → Message → Entry → Speaker → Speaker
 single_own protocol message entry own = shut (behind_entry protocol 0 entry (opened message false entry.has_huge own))
 
-abbrev pub single_other : Protocol → Entry → Speaker → Speaker
-single_other protocol entry other = record other { owed = if is_answer entry.kind then behind_single protocol (reply_of protocol other.owed 0 entry) entry.id other.owed else other.owed }
+abbrev pub single_other : Protocol → Sight → Entry → Speaker → Speaker
+single_other protocol sight entry other = record other {
+  owed = if is_answer entry.kind then behind_single protocol (reply_of protocol other.owed 0 entry) entry.id other.owed else other.owed;
+  refused = if is_answer entry.kind then refused_behind_single protocol sight.refused (reply_of protocol other.owed 0 entry) entry.id other.owed else other.refused;
+}
 
 abbrev pub single_answer_findings : Protocol → Sight → Message → Entry → Speaker → List Finding
 single_answer_findings protocol sight message entry other = if is_answer entry.kind then single_findings protocol sight message (reply_of protocol other.owed 0 entry) entry.id other.owed else []
@@ -73,7 +76,7 @@ abbrev pub single_outcome : Protocol → Message → Entry → Pair → Outcome
 single_outcome protocol message entry pair = record {
   findings = entry_findings protocol message false 0 entry (opened message false entry.has_huge pair.own)
       ++ single_answer_findings protocol (sight_of pair) message entry pair.other;
-  pair = record { own = single_own protocol message entry pair.own; other = single_other protocol entry pair.other };
+  pair = record { own = single_own protocol message entry pair.own; other = single_other protocol (sight_of pair) entry pair.other };
 }
 
 -- ---- an array: `empty-array`, `batch`
@@ -155,8 +158,9 @@ reading_outcome protocol is_unfinished message pair (Array entries) = behind_lin
 abbrev pub next_number : Speaker → ℕ
 next_number own = capped (own.count + 1)
 
+-- no more may have been refused than is open by now
 abbrev pub counted : Pair → Pair
-counted pair = record pair { own = record pair.own { count = next_number pair.own } }
+counted pair = record pair { own = record pair.own { count = next_number pair.own; refused = min pair.own.refused (length pair.own.owed) } }
 
 abbrev pub next_message : Side → ℕ → Pair → Message
 next_message side place pair = record { side = side; number = next_number pair.own; offset = capped place }

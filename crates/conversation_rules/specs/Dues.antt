@@ -1,5 +1,5 @@
 -- What a side owes, listed by contents, the oldest first; and what each thing that is seen changes in it.
-use Rattle.std.specs.Prelude.{ℕ, zero, suc, ◌&&◌, ◌||◌, not, List, [], ◌∷◌, ◌++◌, map, position, remove, take, drop, count_by, length, ◌==◌, Bool, true, Option, Some, None, option_map, option_and_then, slice_get, if◌then◌else◌}
+use Rattle.std.specs.Prelude.{ℕ, zero, suc, ◌&&◌, ◌||◌, not, List, [], ◌∷◌, ◌++◌, map, position, remove, take, drop, count_by, length, ◌==◌, Bool, true, false, Option, Some, None, option_map, option_and_then, slice_get, if◌then◌else◌}
 use Rattle.std.specs.List.{list_any, filter_map}
 use Rattle.std.specs.Option.{option_map_or, is_none}
 use Rattle.conversation_reading.specs.declared.entry.WrittenId.{WrittenId}
@@ -31,9 +31,9 @@ closed [] = []
 closed (due ∷ []) = if is_open due then due ∷ [] else []
 closed (due ∷ next ∷ dues) = due ∷ closed (next ∷ dues)
 
--- a content that couldn't be read may have been the answer of each of these
-abbrev pub maybe_answered : Due → Due
-maybe_answered due = record due { may_be_answered = true }
+-- whether what is open may be refused whole, for a limit of its reader: a batch, or what a reader may limit
+abbrev pub may_be_refused : List Due → Bool
+may_be_refused dues = list_any (λ due. due.is_batch) dues || list_any (λ due. due.has_huge) dues
 
 -- ---- requests with an id
 
@@ -132,7 +132,7 @@ settled_batch (Some content) dues = remove dues content
 
 -- a request that must be answered, and isn't
 abbrev pub unanswered_entry : Due → Owed → Unanswered
-unanswered_entry due owed = record { number = due.number; offset = due.offset; entry = owed.place; may_be_answered = due.may_be_answered }
+unanswered_entry due owed = record { number = due.number; offset = due.offset; entry = owed.place; may_be_answered = false }
 
 abbrev pub unanswered_of : Due → List Owed → List Unanswered
 unanswered_of due [] = []

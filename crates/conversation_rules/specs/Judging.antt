@@ -1,9 +1,9 @@
 -- What is found in what was seen of two sides.
-use Rattle.std.specs.Prelude.{ℕ, ◌||◌, ◌==◌, List, [], ◌∷◌, ◌++◌, map, drop, max, length, Bool, true, false, Option, Some, None, is_some, if◌then◌else◌}
+use Rattle.std.specs.Prelude.{ℕ, zero, suc, ◌||◌, ◌==◌, nat_le, List, [], ◌∷◌, ◌++◌, map, drop, max, length, Bool, true, false, Option, Some, None, is_some, if◌then◌else◌}
 use Rattle.std.specs.Option.{option_map_or}
 use Rattle.lsp_frames.specs.declared.frame.Frame.{Frame}
 use Rattle.lsp_frames.specs.declared.frame.FrameFault.{FrameFault}
-use Rattle.lsp_frames.specs.declared.frame.FrameFault.TheVariants.{BadHead, BadLength, TwoLengths, TooLarge, NoLength, HeadTooLong, Truncated}
+use Rattle.lsp_frames.specs.declared.frame.FrameFault.TheVariants.{BadHead, BadLength, TwoLengths, TooLarge, NoLength, HeadTooLong, Truncated, LongLength}
 use Rattle.content_streams.specs.Streams.{Stream, capped, close_of, fault_place, placed_contents}
 use Rattle.content_streams.specs.declared.ending.HowEnded.{HowEnded}
 use Rattle.content_streams.specs.declared.ending.HowEnded.TheVariants as how
@@ -79,24 +79,26 @@ all_taken stream = record stream { taken = max stream.taken (length (placed_cont
 
 -- ---- head, cut-off, not-judged: a stream that can't be cut any further
 
--- A length of more digits than are read is told as one that isn't one, and may be right.
+-- A length of more digits than are read may be right.
 abbrev pub fault_rule : FrameFault → Rule
 fault_rule BadHead = rules.Head
-fault_rule BadLength = rules.NotJudged
+fault_rule BadLength = rules.Head
 fault_rule TwoLengths = rules.Head
 fault_rule TooLarge = rules.NotJudged
 fault_rule NoLength = rules.Head
 fault_rule HeadTooLong = rules.NotJudged
 fault_rule Truncated = rules.CutOff
+fault_rule LongLength = rules.NotJudged
 
 abbrev pub fault_level : FrameFault → Level
 fault_level BadHead = Must
-fault_level BadLength = Note
+fault_level BadLength = Must
 fault_level TwoLengths = Must
 fault_level TooLarge = Note
 fault_level NoLength = Must
 fault_level HeadTooLong = Note
 fault_level Truncated = Must
+fault_level LongLength = Note
 
 abbrev pub fault_finding : Side → ℕ → Pair → FrameFault → Finding
 fault_finding side place pair fault = found (next_message side place pair) 0 (fault_rule fault) (fault_level fault)
@@ -156,8 +158,26 @@ ends_session protocol Server own = false
 abbrev pub is_excused : Protocol → Side → Pair → Bool
 is_excused protocol side pair = pair.other.has_ended || (pair.other.has_exited || ends_session protocol side pair.own)
 
+-- Those up to a content may have been answered by what couldn't be read.
+abbrev pub maybe_answered : ℕ → Unanswered → Unanswered
+maybe_answered unsure_up_to request = record request { may_be_answered = nat_le request.number unsure_up_to }
+
+-- Which of them may have been refused isn't known: those of the oldest contents count as such, one content for each error.
+-- What is left of a content stands side by side, and `number` is that of the last one that counts.
+abbrev pub may_be_refused : ℕ → ℕ → List Unanswered → List Unanswered
+may_be_refused refused number [] = []
+may_be_refused refused number (request ∷ requests) =
+    if request.number == number then record request { may_be_answered = true } ∷ may_be_refused refused number requests
+    else (elim refused [
+      | zero ↦ request ∷ may_be_refused zero number requests
+      | suc others ↦ record request { may_be_answered = true } ∷ may_be_refused others request.number requests
+    ])
+
+abbrev pub left_unanswered : Speaker → List Unanswered
+left_unanswered asker = may_be_refused asker.refused 0 (map (maybe_answered asker.unsure_up_to) (unanswered asker.owed))
+
 abbrev pub unanswered_findings : Protocol → Side → HowEnded → Pair → List Finding
-unanswered_findings protocol side how pair = if is_excused protocol side pair then [] else map (unanswered_finding side how (pair.own.is_over || pair.other.is_over)) (unanswered pair.other.owed)
+unanswered_findings protocol side how pair = if is_excused protocol side pair then [] else map (unanswered_finding side how (pair.own.is_over || pair.other.is_over)) (left_unanswered pair.other)
 
 abbrev pub ended_findings : Protocol → Side → HowEnded → Stream → Pair → List Finding
 ended_findings protocol side how stream pair =
@@ -165,7 +185,7 @@ ended_findings protocol side how stream pair =
     contents_findings protocol side true (new_contents stream) pair ++ fault_findings side stream last ++ unanswered_findings protocol side how last
 
 abbrev pub ended_pair : Pair → Pair
-ended_pair pair = record { own = record pair.own { has_ended = true }; other = record pair.other { owed = [] } }
+ended_pair pair = record { own = record pair.own { has_ended = true }; other = record pair.other { owed = []; refused = 0 } }
 
 abbrev pub behind_ended : Protocol → Side → Stream → Pair → Pair
 behind_ended protocol side stream pair = ended_pair (behind_contents protocol side true (new_contents stream) pair)

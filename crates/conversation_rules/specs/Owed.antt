@@ -37,10 +37,8 @@ pub record Due : Type 0 where
   pub entries : List Owed
   pub is_batch : Bool
   pub is_unreadable : Bool
-  -- whether it may be refused whole: a number in it is beyond a float's range, or a member stands twice
+  -- whether it may be refused whole: a number in it is beyond a float's range, a member stands twice, or a request nests deep
   pub has_huge : Bool
-  -- whether a content that couldn't be read came behind it, which may have been its answer
-  pub may_be_answered : Bool
 
 abbrev pub has_id : WrittenId → Option WrittenId → Bool
 has_id id other = option_map_or (same_id id) other false
@@ -103,11 +101,11 @@ all_owed rules place (entry ∷ entries) = option_map_or (λ owed. owed ∷ all_
 
 -- a content on which nothing is owed yet
 abbrev pub new_due : ℕ → ℕ → Bool → Bool → Due
-new_due number offset batch huge = record { number = number; offset = offset; entries = []; is_batch = batch; is_unreadable = false; has_huge = huge; may_be_answered = false }
+new_due number offset batch huge = record { number = number; offset = offset; entries = []; is_batch = batch; is_unreadable = false; has_huge = huge }
 
 -- one that can't be read
 abbrev pub unreadable_due : ℕ → ℕ → Due
-unreadable_due number offset = record { number = number; offset = offset; entries = []; is_batch = false; is_unreadable = true; has_huge = false; may_be_answered = false }
+unreadable_due number offset = record { number = number; offset = offset; entries = []; is_batch = false; is_unreadable = true; has_huge = false }
 
 abbrev pub single_due : ℕ → ℕ → Bool → Protocol → Entry → Due
 single_due number offset huge rules entry = record (new_due number offset false huge) { entries = option_to_list (owed_on rules 0 entry) }

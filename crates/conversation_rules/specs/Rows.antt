@@ -1,5 +1,5 @@
 -- Worked rows: what is owed on small contents.
-use Rattle.std.specs.Prelude.{ℕ, List, [], ◌∷◌, ◌++◌, Bool, true, false, Option, option_map, codes}
+use Rattle.std.specs.Prelude.{ℕ, zero, suc, List, [], ◌∷◌, ◌++◌, Bool, true, false, Option, option_map, codes}
 use Rattle.std.specs.Option.{option_map_or}
 use Rattle.json.specs.Json.{Json, Items, no_items, item, null, object, string, array}
 use Rattle.content_streams.specs.declared.ending.HowEnded.{HowEnded}
@@ -54,6 +54,18 @@ null_call = message (method ∷ (codes "id", null) ∷ (codes "params", null) �
 
 abbrev pub request_without_params : List ℕ → Json
 request_without_params digits = message (method ∷ id digits ∷ (codes "params", null) ∷ [])
+
+-- a value in so many arrays
+abbrev pub in_arrays : ℕ → Json → Json
+in_arrays zero j = j
+in_arrays (suc depth) j = array (item (in_arrays depth j) no_items)
+
+-- a request whose id is a text, and one whose params are an array too that nests so deep
+abbrev pub text_request : List ℕ → Json
+text_request text = message (method ∷ (codes "id", string text) ∷ [])
+
+abbrev pub deep_request : ℕ → List ℕ → Json
+deep_request depth text = message (method ∷ (codes "id", string text) ∷ (codes "params", in_arrays depth null) ∷ [])
 
 -- whether it must be answered
 abbrev pub must_be_answered : Protocol → Json → Bool

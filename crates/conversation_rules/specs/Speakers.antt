@@ -12,6 +12,11 @@ pub record Speaker : Type 0 where
   pub count : ℕ
   -- what the other side owes on them, the oldest first
   pub owed : List Due
+  -- A content of the other side couldn't be read, and may have been the answer to what is owed on this content, or on an
+  -- older one: its number, or 0.
+  pub unsure_up_to : ℕ
+  -- how many errors with the id null the other side sent that fitted nothing, and may have refused what is owed
+  pub refused : ℕ
   -- the ids that its requests had, and those of `initialize`
   pub used : Used
   pub initialize : Used
@@ -24,7 +29,7 @@ pub record Speaker : Type 0 where
   pub has_ended : Bool
 
 abbrev pub new_speaker : ℕ → Speaker
-new_speaker most = record { count = 0; owed = []; used = none_used most; initialize = none_used most; has_exited = false; has_unreadable = false; is_over = false; has_ended = false }
+new_speaker most = record { count = 0; owed = []; unsure_up_to = 0; refused = 0; used = none_used most; initialize = none_used most; has_exited = false; has_unreadable = false; is_over = false; has_ended = false }
 
 -- the side that is seen, and the other one
 pub record Pair : Type 0 where

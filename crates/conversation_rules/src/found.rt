@@ -35,6 +35,7 @@ pub struct Unanswered {
     pub offset: u64,
     /// Its place in its array, from 1, or 0.
     pub entry: u64,
-    /// A content that couldn't be read came behind it, and may have been its answer.
+    /// A content that couldn't be read came behind it, and may have been its answer; or an error with the id null may have
+    /// refused it.
     pub may_be_answered: bool,
 }

@@ -22,7 +22,7 @@ pub use protocol::Protocol;
 pub use reply::{Reply, Sight, Stray};
 pub use side::Side;
 pub use worked::{
-    answers_in_arrays, answers_that_are_owed, answers_that_may_come, cancels, ends_of_sides,
-    good_json, ids_of_requests, members_that_stand_twice, names_and_codes,
-    requests_that_are_answers,
+    answers_in_arrays, answers_that_are_owed, answers_that_may_come, cancels,
+    contents_that_are_refused, ends_of_sides, good_json, ids_of_requests, members_that_stand_twice,
+    names_and_codes, requests_that_are_answers,
 };

@@ -9,6 +9,8 @@ pub struct Reply {
     pub is_well: bool,
     /// Whether it has a member `error`.
     pub has_error: bool,
+    /// Whether its id is null.
+    pub is_null: bool,
     /// The code of its error, where that is a whole number whose size is below 2^64.
     pub code: Option<Whole>,
     /// Whether it says that its request was cancelled, where no cancel of it was seen.
@@ -31,4 +33,6 @@ pub struct Sight {
     pub is_broken: bool,
     /// Whether a content of the side that asked couldn't be read.
     pub has_unreadable: bool,
+    /// How many errors with the id null its side sent that fitted nothing, and may have refused what is still owed.
+    pub refused: u64,
 }

@@ -3,7 +3,7 @@
 ghost use Rattle.std.specs.Prelude.{◌≡◌, ◌∷◌, [], codes};
 ghost use Rattle.json.specs.Json.{null, number, string};
 ghost use Rattle.conversation_reading.specs.Rows.{id, message, method, outcome};
-ghost use Rattle.conversation_rules.specs.Rows.{request, old_request, no_method, null_request, null_call, request_without_params, two_ids, answer, null_answer, error_answer, notification, call, lsp_cancel, mcp_cancel, array_of, says, babbles, ends, told, tells};
+ghost use Rattle.conversation_rules.specs.Rows.{request, old_request, no_method, null_request, null_call, request_without_params, text_request, deep_request, two_ids, answer, null_answer, error_answer, notification, call, lsp_cancel, mcp_cancel, array_of, says, babbles, ends, told, tells};
 ghost use Rattle.content_streams.specs.declared.ending.HowEnded.TheVariants.{Closed, ReadFailed};
 ghost use Rattle.conversation_rules.specs.declared.finding.Rule.TheVariants as rules;
 ghost use Rattle.conversation_rules.specs.declared.level.Level.TheVariants.{Must, Should, Note};
@@ -28,7 +28,7 @@ pub fn answers_that_are_owed()
         ≡ tells Server rules.NotOwed Must 1 0 ∷ [] }
     ensures notified { told JsonRpc (says Client (notification (codes "a")) ∷ says Server (null_answer (codes "5")) ∷ [])
         ≡ tells Server rules.NotOwed Must 1 0 ∷ [] }
-    ensures null_for_a_request { told JsonRpc (says Client (request (codes "7")) ∷ says Server (null_answer (codes "5")) ∷ [])
+    ensures null_for_a_request { told JsonRpc (says Client (text_request (codes "7")) ∷ says Server (null_answer (codes "5")) ∷ [])
         ≡ tells Server rules.NotOwed Must 1 0 ∷ [] }
 {}
 
@@ -59,8 +59,41 @@ pub fn answers_that_may_come()
 pub fn good_json()
     ensures invalid { told JsonRpc (says Client (no_method (codes "7")) ∷ says Server (null_answer (codes "-32700")) ∷ [])
         ≡ tells Client rules.Method Must 1 0 ∷ tells Server rules.NotOwed Must 1 0 ∷ [] }
-    ensures request { told JsonRpc (says Client (message (method ∷ (codes "id", string (codes "7")) ∷ [])) ∷ says Server (null_answer (codes "-32700")) ∷ [])
+    ensures request { told JsonRpc (says Client (text_request (codes "7")) ∷ says Server (null_answer (codes "-32700")) ∷ [])
         ≡ tells Server rules.NotOwed Must 1 0 ∷ [] }
+{}
+
+/// But a batch may be refused whole, and a request that nests deep: each once (JSON-RPC 2.0, section 6; RFC 8259, section 9).
+pub fn contents_that_are_refused()
+    ensures deep { told JsonRpc (says Client (deep_request 31 (codes "7")) ∷ says Server (null_answer (codes "5")) ∷ says Server (null_answer (codes "5"))
+        ∷ ends Server Closed ∷ [])
+        ≡ tells Server rules.NotOwed Note 1 0 ∷ tells Server rules.NotOwed Must 2 0 ∷ tells Server rules.Unanswered Note 1 0 ∷ [] }
+    ensures deep_as_unreadable { told JsonRpc (says Client (deep_request 31 (codes "7")) ∷ says Server (null_answer (codes "-32700"))
+        ∷ says Server (null_answer (codes "-32700")) ∷ ends Server Closed ∷ []) ≡ tells Server rules.NotOwed Must 2 0 ∷ [] }
+    ensures less_deep { told JsonRpc (says Client (deep_request 30 (codes "7")) ∷ says Server (null_answer (codes "-32700")) ∷ ends Server Closed ∷ [])
+        ≡ tells Server rules.NotOwed Must 1 0 ∷ tells Server rules.Unanswered Must 1 0 ∷ [] }
+    ensures nothing { told JsonRpc (says Server (null_answer (codes "5")) ∷ says Client (array_of (request (codes "7") ∷ [])) ∷ ends Server Closed ∷ [])
+        ≡ tells Server rules.NotOwed Must 1 0 ∷ tells Server rules.Unanswered Must 1 1 ∷ [] }
+    ensures by_a_result { told JsonRpc (says Client (array_of (request (codes "7") ∷ []))
+        ∷ says Server (message ((codes "id", null) ∷ outcome ∷ [])) ∷ ends Server Closed ∷ [])
+        ≡ tells Server rules.NotOwed Must 1 0 ∷ tells Server rules.Unanswered Must 1 1 ∷ [] }
+    ensures batch { told JsonRpc (says Client (array_of (request (codes "7") ∷ request (codes "8") ∷ []))
+        ∷ says Server (null_answer (codes "-32600")) ∷ says Server (null_answer (codes "5")) ∷ ends Server Closed ∷ [])
+        ≡ tells Server rules.NotOwed Note 1 0 ∷ tells Server rules.NotOwed Must 2 0
+        ∷ tells Server rules.Unanswered Note 1 1 ∷ tells Server rules.Unanswered Note 1 2 ∷ [] }
+    ensures batch_among_others { told JsonRpc (says Client (request (codes "6")) ∷ says Client (array_of (request (codes "7") ∷ []))
+        ∷ says Server (null_answer (codes "5")) ∷ says Server (answer (codes "6")) ∷ ends Server Closed ∷ [])
+        ≡ tells Server rules.NotOwed Note 1 0 ∷ tells Server rules.Unanswered Note 2 1 ∷ [] }
+    ensures oldest { told JsonRpc (says Client (array_of (request (codes "7") ∷ [])) ∷ says Client (array_of (request (codes "8") ∷ []))
+        ∷ says Server (null_answer (codes "5")) ∷ ends Server Closed ∷ []) ≡ tells Server rules.NotOwed Note 1 0
+        ∷ tells Server rules.Unanswered Note 1 1 ∷ tells Server rules.Unanswered Must 2 1 ∷ [] }
+    ensures answered_all_the_same { told JsonRpc (says Client (array_of (request (codes "7") ∷ [])) ∷ says Server (null_answer (codes "5"))
+        ∷ says Server (array_of (answer (codes "7") ∷ [])) ∷ says Client (array_of (request (codes "8") ∷ [])) ∷ ends Server Closed ∷ [])
+        ≡ tells Server rules.NotOwed Note 1 0 ∷ tells Server rules.Unanswered Must 2 1 ∷ [] }
+    ensures unreadable_first { told JsonRpc (says Client (array_of (request (codes "7") ∷ [])) ∷ babbles Client ∷ says Server (null_answer (codes "5"))
+        ∷ says Server (null_answer (codes "5")) ∷ ends Server Closed ∷ [])
+        ≡ tells Client rules.NotJson Must 2 0 ∷ tells Server rules.NotOwed Note 1 0 ∷ tells Server rules.NotOwed Note 2 0
+        ∷ tells Server rules.Unanswered Note 1 1 ∷ [] }
 {}
 
 /// The answers of a batch are one array (JSON-RPC 2.0, section 6).

@@ -1,6 +1,6 @@
 -- An event's head and texts.
 use Rattle.std.specs.Prelude.{ℕ, List, [], Option, Some, None, ℤ, pos, length, min}
-use Rattle.lsp_frames.specs.declared.frame.FrameFault.TheVariants.{BadHead, BadLength, TwoLengths, TooLarge, NoLength, HeadTooLong, Truncated}
+use Rattle.lsp_frames.specs.declared.frame.FrameFault.TheVariants.{BadHead, BadLength, TwoLengths, TooLarge, NoLength, HeadTooLong, Truncated, LongLength}
 use Rattle.connection_messages.specs.Texts.{id_text}
 use Rattle.message_ids.specs.declared.id.Id.{Id}
 use Rattle.connection_messages.specs.declared.reply.Reply.{Reply}
@@ -29,6 +29,7 @@ flag_of (Fault TooLarge) = 4
 flag_of (Fault NoLength) = 5
 flag_of (Fault HeadTooLong) = 6
 flag_of (Fault Truncated) = 7
+flag_of (Fault LongLength) = 2
 flag_of ReadFailed = 8
 flag_of Full = 9
 

@@ -137,7 +137,7 @@ fn flag_of(close: Close) -> u32
         Close::Clean => 0,
         Close::Fault(fault) => match fault {
             FrameFault::BadHead => 1,
-            FrameFault::BadLength => 2,
+            FrameFault::BadLength | FrameFault::LongLength => 2,
             FrameFault::TwoLengths => 3,
             FrameFault::TooLarge => 4,
             FrameFault::NoLength => 5,

@@ -2,7 +2,7 @@
 use Rattle.std.proofs.Common.{◌≡◌, ◌≢◌, ℕ, ◌-◌, ◌≤◌, ◌==◌, Bool, true, false, cond, ltb, List, length, take, [], ◌∷◌, Option, Some, None, Result, Ok, Err, refl, ap, sym, ◌∙◌, arith, codes}
 use Rattle.std.proofs.lemmas.Grind.{common_steps}
 use Rattle.std.specs.List.{slice_index}
-use Rattle.lsp_frames.specs.Fields.{field_of, is_named, length_of, is_foreign}
+use Rattle.lsp_frames.specs.Fields.{field_of, is_named, length_of, is_long_number, is_foreign}
 use Rattle.lsp_frames.specs.Lines.{no_fields, with_length, fields_with_length, fields_with, fields_after, line_of, meaning_of, line_meaning}
 use Rattle.lsp_frames.specs.Heads.{HeadRead, Ends, Breaks, Unended, Step, Goes, Completes, Shows, line_step, within, step, head_from, head_at}
 use Rattle.lsp_frames.specs.Frames.{Front, Whole, Faulty, Less, front_of, front}
@@ -20,20 +20,20 @@ choice_stays : {X : Type 0} (t : Bool) (x y z bad : X) → (y ≢ bad → x ≡ 
 choice_stays true x y z bad same other = same other
 choice_stays false x y z bad same other = refl
 
-length_stays : (limit greater : ℕ) (fields : Fields) (n : Option ℕ) → limit ≤ greater → with_length limit fields n ≢ Err TooLarge → with_length greater fields n ≡ with_length limit fields n
-length_stays limit greater fields None more fits = refl
-length_stays limit greater fields (Some n) more fits = go (ltb limit n) refl
+length_stays : (limit greater : ℕ) (fields : Fields) (is_long : Bool) (n : Option ℕ) → limit ≤ greater → with_length limit fields is_long n ≢ Err TooLarge → with_length greater fields is_long n ≡ with_length limit fields is_long n
+length_stays limit greater fields is_long None more fits = refl
+length_stays limit greater fields is_long (Some n) more fits = go (ltb limit n) refl
   where
-    go : (t : Bool) → ltb limit n ≡ t → with_length greater fields (Some n) ≡ with_length limit fields (Some n)
+    go : (t : Bool) → ltb limit n ≡ t → with_length greater fields is_long (Some n) ≡ with_length limit fields is_long (Some n)
     go true large =
-        let is : with_length limit fields (Some n) ≡ Err TooLarge = rw large in
+        let is : with_length limit fields is_long (Some n) ≡ Err TooLarge = rw large in
         absurd (fits is)
     go false small =
         let low : ltb greater n ≡ false = grind (arith, common_steps) in
         rw (low, small)
 
 first_length_stays : (limit greater : ℕ) (fields : Fields) (before : Option ℕ) (value : List ℕ) → limit ≤ greater → fields_with_length limit fields before value ≢ Err TooLarge → fields_with_length greater fields before value ≡ fields_with_length limit fields before value
-first_length_stays limit greater fields None value more fits = length_stays limit greater fields (length_of value) more fits
+first_length_stays limit greater fields None value more fits = length_stays limit greater fields (is_long_number value) (length_of value) more fits
 first_length_stays limit greater fields (Some n) value more fits = refl
 
 field_stays : (limit greater : ℕ) (fields : Fields) (field : Option (List ℕ × List ℕ)) → limit ≤ greater → fields_with limit fields field ≢ Err TooLarge → fields_with greater fields field ≡ fields_with limit fields field

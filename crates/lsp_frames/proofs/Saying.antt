@@ -5,7 +5,7 @@ use Rattle.std.proofs.lemmas.List.Folds.{list_all-append}
 use Rattle.std.proofs.lemmas.List.Sums.{prefix_len_stops}
 use Rattle.std.proofs.Math.Seq.{drop-cons}
 use Rattle.std.specs.List.{list_all, position_or_len}
-use Rattle.lsp_frames.specs.Fields.{is_name_byte, is_value_byte, is_colon, is_name, field_at, field_of, is_named, length_of}
+use Rattle.lsp_frames.specs.Fields.{is_name_byte, is_value_byte, is_colon, is_name, field_at, field_of, is_named, length_of, is_long_number}
 use Rattle.lsp_frames.specs.Lines.{with_length, fields_with_length, fields_with, fields_after, head_end, line_of, meaning_of, line_meaning}
 use Rattle.lsp_frames.specs.Frames.{HasNoLf}
 use Rattle.lsp_frames.specs.declared.frame.FrameFault.{FrameFault}
@@ -158,13 +158,14 @@ said_end limit fields n foreign text h =
 
 -- no line says that the input ends
 
-length_is_not_truncated : (limit : ℕ) (fields : Fields) (n : Option ℕ) → with_length limit fields n ≡ Err Truncated → ⊥
-length_is_not_truncated limit fields None h = cc
-length_is_not_truncated limit fields (Some n) h = elim (choice (ltb limit n) _ _ _ h) [ inl hit ↦ cc | inr miss ↦ cc ]
+length_is_not_truncated : (limit : ℕ) (fields : Fields) (is_long : Bool) (n : Option ℕ) → with_length limit fields is_long n ≡ Err Truncated → ⊥
+length_is_not_truncated limit fields true None h = cc
+length_is_not_truncated limit fields false None h = cc
+length_is_not_truncated limit fields is_long (Some n) h = elim (choice (ltb limit n) _ _ _ h) [ inl hit ↦ cc | inr miss ↦ cc ]
 
 second_is_not_truncated : (limit : ℕ) (fields : Fields) (before : Option ℕ) (value : List ℕ) → fields_with_length limit fields before value ≡ Err Truncated → ⊥
 second_is_not_truncated limit fields (Some n) value h = cc
-second_is_not_truncated limit fields None value h = length_is_not_truncated limit fields (length_of value) h
+second_is_not_truncated limit fields None value h = length_is_not_truncated limit fields (is_long_number value) (length_of value) h
 
 field_is_not_truncated : (limit : ℕ) (fields : Fields) (field : Option (List ℕ × List ℕ)) → fields_with limit fields field ≡ Err Truncated → ⊥
 field_is_not_truncated limit fields None h = cc

@@ -7,7 +7,7 @@ use Rattle.std.proofs.lemmas.Fmt.{decimal_is_IsNumeral, length-decimal-le}
 use Rattle.std.specs.List.{list_all}
 use Rattle.std.specs.Char.{is_ascii_digit, digit_value}
 use Rattle.std.specs.Str.Parse.{AllDigits, digits_value}
-use Rattle.lsp_frames.specs.Fields.{is_blank, is_colon, is_value_byte, without_leading_blanks, without_trailing_blanks, without_outer_blanks, field_at, field_of, is_named, length_of}
+use Rattle.lsp_frames.specs.Fields.{is_blank, is_colon, is_value_byte, without_leading_blanks, without_trailing_blanks, without_outer_blanks, field_at, field_of, is_named, length_of, is_long_number}
 use Rattle.lsp_frames.specs.Lines.{no_fields, with_length, fields_with, fields_after}
 use Rattle.lsp_frames.specs.Frames.{head_text, HasForm, written}
 use Rattle.lsp_frames.specs.Heads.{Ends, head_from, head_at}
@@ -71,8 +71,8 @@ field_is ds digits =
     ∙ ap (λ (t : Bool). cond t (Some (codes "Content-Length", without_outer_blanks (32 ∷ ds))) None) values
     ∙ ap (λ (xs : List ℕ). Some (codes "Content-Length", xs)) (digits_trimmed ds digits)
 
-with_length_is : (limit n : ℕ) → n ≤ limit → with_length limit no_fields (Some n) ≡ Ok (record { content_length = Some n; foreign = false })
-with_length_is limit n h =
+with_length_is : (limit n : ℕ) (is_long : Bool) → n ≤ limit → with_length limit no_fields is_long (Some n) ≡ Ok (record { content_length = Some n; foreign = false })
+with_length_is limit n is_long h =
     let low : ltb limit n ≡ false = grind (arith, common_steps) in
     rw low
 
@@ -80,8 +80,8 @@ pub judged_is : (limit n : ℕ) (ds : List ℕ) → n ≤ limit → list_all is_
 unfolding fields_after is_named
 judged_is limit n ds h digits some short value =
     ap (fields_with limit no_fields) (field_is ds digits)
-    ∙ ap (with_length limit no_fields) (length_is ds n digits some short value)
-    ∙ with_length_is limit n h
+    ∙ ap (with_length limit no_fields (is_long_number ds)) (length_is ds n digits some short value)
+    ∙ with_length_is limit n (is_long_number ds) h
 
 -- its head, whatever follows
 

@@ -58,6 +58,10 @@ unfoldable pub length_of : List ℕ → Option ℕ
 length_of value = if nat_lt 0 (length value) && nat_le (length value) LONGEST_NUMBER && list_all is_ascii_digit value
     then Some (digits_value 10 value) else None
 
+-- more than 10 decimal digits, and nothing else
+abbrev pub is_long_number : List ℕ → Bool
+is_long_number value = nat_lt LONGEST_NUMBER (length value) && list_all is_ascii_digit value
+
 -- what follows the first place where a word stands, in any case
 unfoldable pub after_word : List ℕ → List ℕ → Option (List ℕ)
 after_word word [] = None

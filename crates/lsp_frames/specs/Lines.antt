@@ -1,8 +1,8 @@
 -- What one line of a head says, in the order of the checks (LSP 3.17, "Base Protocol", "Header Part").
-use Rattle.std.specs.Prelude.{ℕ, ◌-◌, false, ◌||◌, List, [], ◌∷◌, length, take, Option, Some, None, Result, Ok, Err, nat_lt, ◌==◌, if◌then◌else◌, codes, slice_index}
-use Rattle.lsp_frames.specs.Fields.{field_of, is_named, length_of, is_foreign}
+use Rattle.std.specs.Prelude.{ℕ, ◌-◌, Bool, false, ◌||◌, List, [], ◌∷◌, length, take, Option, Some, None, Result, Ok, Err, nat_lt, ◌==◌, if◌then◌else◌, codes, slice_index}
+use Rattle.lsp_frames.specs.Fields.{field_of, is_named, length_of, is_long_number, is_foreign}
 use Rattle.lsp_frames.specs.declared.frame.FrameFault.{FrameFault}
-use Rattle.lsp_frames.specs.declared.frame.FrameFault.TheVariants.{BadHead, BadLength, TwoLengths, TooLarge, NoLength}
+use Rattle.lsp_frames.specs.declared.frame.FrameFault.TheVariants.{BadHead, BadLength, TwoLengths, TooLarge, NoLength, LongLength}
 use Rattle.lsp_frames.specs.declared.line.Fields.{Fields}
 use Rattle.lsp_frames.specs.declared.line.Line.{Line}
 use Rattle.lsp_frames.specs.declared.line.Line.TheVariants.{More, End, Fault}
@@ -11,15 +11,19 @@ use Rattle.lsp_frames.specs.declared.line.Line.TheVariants.{More, End, Fault}
 abbrev pub no_fields : Fields
 no_fields = record { content_length = None; foreign = false }
 
+-- what is wrong with a `Content-Length` that isn't read
+abbrev pub length_fault : Bool → FrameFault
+length_fault is_long = if is_long then LongLength else BadLength
+
 -- a `Content-Length` that is read as this number, or as none
-abbrev pub with_length : ℕ → Fields → Option ℕ → Result Fields FrameFault
-with_length limit fields None = Err BadLength
-with_length limit fields (Some n) = if nat_lt limit n then Err TooLarge else Ok (record fields { content_length = Some n })
+abbrev pub with_length : ℕ → Fields → Bool → Option ℕ → Result Fields FrameFault
+with_length limit fields is_long None = Err (length_fault is_long)
+with_length limit fields is_long (Some n) = if nat_lt limit n then Err TooLarge else Ok (record fields { content_length = Some n })
 
 -- a `Content-Length` after the lines before it
 abbrev pub fields_with_length : ℕ → Fields → Option ℕ → List ℕ → Result Fields FrameFault
 fields_with_length limit fields (Some before) value = Err TwoLengths
-fields_with_length limit fields None value = with_length limit fields (length_of value)
+fields_with_length limit fields None value = with_length limit fields (is_long_number value) (length_of value)
 
 abbrev pub fields_with : ℕ → Fields → Option (List ℕ × List ℕ) → Result Fields FrameFault
 fields_with limit fields None = Err BadHead

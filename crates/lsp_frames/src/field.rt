@@ -1,8 +1,9 @@
 //! The lines `name:value` of a head.
 
 ghost use Rattle.std.specs.Prelude.{◌≡◌, ◌==◌, option_map, position};
+ghost use Rattle.std.specs.Char.{is_ascii_digit};
 ghost use Rattle.std.specs.List.{list_all};
-ghost use Rattle.lsp_frames.specs.Fields.{field_of, is_blank, is_name_byte, is_value_byte, is_name, is_named, length_of, without_outer_blanks, without_leading_blanks, without_trailing_blanks};
+ghost use Rattle.lsp_frames.specs.Fields.{field_of, is_blank, is_name_byte, is_value_byte, is_name, is_named, length_of, is_long_number, without_outer_blanks, without_leading_blanks, without_trailing_blanks};
 
 use crate::limits::LONGEST_NUMBER;
 
@@ -122,4 +123,23 @@ pub(crate) fn length_of(value: &[u8]) -> Option<u64>
         number = number * 10 + u64::from(*digit - b'0');
     }
     Some(number)
+}
+
+fn is_digit(b: u8) -> bool
+    ensures { result ≡ is_ascii_digit b }
+{
+    b.is_ascii_digit()
+}
+
+fn has_digits(bytes: &[u8]) -> bool
+    ensures { result ≡ list_all is_ascii_digit bytes.now }
+{
+    bytes.iter().all(|b| is_digit(*b))
+}
+
+/// Whether these are more than 10 decimal digits, and nothing else.
+pub(crate) fn is_long_number(value: &[u8]) -> bool
+    ensures { result ≡ is_long_number value.now }
+{
+    value.len() > LONGEST_NUMBER && has_digits(value)
 }

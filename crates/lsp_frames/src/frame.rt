@@ -16,7 +16,7 @@ pub struct Frame {
 pub enum FrameFault {
     /// A line of a head isn't `name:value` CR LF.
     BadHead,
-    /// The value of `Content-Length` isn't a number of 1 to 10 decimal digits.
+    /// The value of `Content-Length` isn't a number in decimal digits.
     BadLength,
     /// A head has a second line `Content-Length`.
     TwoLengths,
@@ -28,6 +28,9 @@ pub enum FrameFault {
     HeadTooLong,
     /// The input ends inside a frame.
     Truncated,
+    /// The value of `Content-Length` has more than 10 digits, and nothing else: a sender may be right to write it. Those
+    /// that tell a fault by a name or a number tell it as `BadLength`.
+    LongLength,
 }
 
 /// How a stream of frames ended.

@@ -1,10 +1,11 @@
 //! What one line of a head says.
 
 ghost use Rattle.std.specs.Prelude.{◌≡◌};
-ghost use Rattle.lsp_frames.specs.Lines.{fields_after, fields_with_length, line_meaning};
+ghost use Rattle.lsp_frames.specs.Fields.{is_long_number};
+ghost use Rattle.lsp_frames.specs.Lines.{fields_after, fields_with_length, length_fault, line_meaning};
 
 use crate::charset::is_foreign;
-use crate::field::{field_of, is_named, length_of};
+use crate::field::{field_of, is_long_number, is_named, length_of};
 use crate::frame::FrameFault;
 
 /// What the lines of a head have said so far.
@@ -31,6 +32,17 @@ impl Fields {
     };
 }
 
+/// What is wrong with the value of a `Content-Length` that isn't 1 to 10 digits.
+fn length_fault(value: &[u8]) -> FrameFault
+    ensures { result ≡ length_fault (is_long_number value.now) }
+{
+    if is_long_number(value) {
+        FrameFault::LongLength
+    } else {
+        FrameFault::BadLength
+    }
+}
+
 fn fields_with_length(limit: u32, fields: Fields, value: &[u8]) -> Result<Fields, FrameFault>
     ensures { result ≡ fields_with_length limit fields fields.content_length value.now }
 {
@@ -38,7 +50,7 @@ fn fields_with_length(limit: u32, fields: Fields, value: &[u8]) -> Result<Fields
         return Err(FrameFault::TwoLengths);
     }
     let Some(length) = length_of(value) else {
-        return Err(FrameFault::BadLength);
+        return Err(length_fault(value));
     };
     if length > u64::from(limit) {
         return Err(FrameFault::TooLarge);

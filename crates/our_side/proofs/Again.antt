@@ -35,7 +35,7 @@ use Rattle.conversation_rules.specs.declared.side.Side.{Side}
 use Rattle.conversation_rules.specs.declared.side.Side.TheVariants.{Client, Server}
 use Rattle.our_side.specs.Breaking.{BreaksNone}
 use Rattle.our_side.specs.Saying.{IsSaid, AreSaid, IsWell}
-use Rattle.our_side.proofs.Below.{all-append, IsKeyBelow, OneBelow, OwedBelow, owed_later, more_below, closed_below, marked_below, cancelled_below, single_below, answers_below, not_asked, RunsBelow, runs_later, not_used, used_below}
+use Rattle.our_side.proofs.Below.{all-append, IsKeyBelow, OneBelow, OwedBelow, owed_later, more_below, closed_below, cancelled_below, single_below, answers_below, not_asked, RunsBelow, runs_later, not_used, used_below}
 use Rattle.our_side.proofs.Fair.{Silent, IsFair, AllWell, EndsFairly, own_may, own_hosts, faultless, own_ids, their_content, our_fault_each, their_fault_each, we_left_each, they_left_each, none_each, breaks_none}
 use Rattle.our_side.proofs.Found.{Keeps, all_each}
 use Rattle.our_side.proofs.Streaming.{other, swap, Later, Grow}
@@ -254,11 +254,11 @@ module _ (side : Side) (those : Rule → Bool) (fair : IsFair those) (not_owed :
   -- ---- a content of the other side
 
   their_below : (is_unfinished : Bool) (b : ℕ) (message : Message) (pair : Pair) (reading : Reading) → IsBelow b pair.other → IsBelow b (reading_outcome protocol is_unfinished message pair reading).pair.other
-  their_below is_unfinished b message pair Foreign is = record { runs = is.runs; owed = marked_below b pair.other.owed is.owed }
-  their_below is_unfinished b message pair NotText is = record { runs = is.runs; owed = marked_below b pair.other.owed is.owed }
-  their_below is_unfinished b message pair NotJson is = record { runs = is.runs; owed = marked_below b pair.other.owed is.owed }
-  their_below is_unfinished b message pair TooDeep is = record { runs = is.runs; owed = marked_below b pair.other.owed is.owed }
-  their_below is_unfinished b message pair HalfPair is = record { runs = is.runs; owed = marked_below b pair.other.owed is.owed }
+  their_below is_unfinished b message pair Foreign is = record { runs = is.runs; owed = is.owed }
+  their_below is_unfinished b message pair NotText is = record { runs = is.runs; owed = is.owed }
+  their_below is_unfinished b message pair NotJson is = record { runs = is.runs; owed = is.owed }
+  their_below is_unfinished b message pair TooDeep is = record { runs = is.runs; owed = is.owed }
+  their_below is_unfinished b message pair HalfPair is = record { runs = is.runs; owed = is.owed }
   their_below is_unfinished b message pair (Single entry) is = record { runs = is.runs; owed = from (is_answer entry.kind) }
     where
       from : (c : Bool) → OwedBelow b (if c then behind_single protocol (reply_of protocol pair.other.owed 0 entry) entry.id pair.other.owed else pair.other.owed)

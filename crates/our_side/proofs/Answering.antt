@@ -652,7 +652,7 @@ module _ (side : Side) where
             (one_answered pair entry orderly answer name expects).none)
         from false answer = tt
 
-    said_behind : (pair : Pair) (entry : Entry) → AreOrderly pair.other.owed → Says (Single entry) → Expects pair.other.owed (Single entry) → Behind pair.other.owed (single_other protocol entry pair.other).owed (Single entry)
+    said_behind : (pair : Pair) (entry : Entry) → AreOrderly pair.other.owed → Says (Single entry) → Expects pair.other.owed (Single entry) → Behind pair.other.owed (single_other protocol (sight_of pair) entry pair.other).owed (Single entry)
     said_behind pair entry orderly says expects = from (is_answer entry.kind) refl
       where
         from : (b : Bool) → is_answer entry.kind ≡ b → Behind pair.other.owed (if b then behind_single protocol (reply_of protocol pair.other.owed 0 entry) entry.id pair.other.owed else pair.other.owed) (Single entry)

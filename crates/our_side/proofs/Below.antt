@@ -11,7 +11,7 @@ use Rattle.conversation_reading.specs.declared.entry.WrittenId.TheVariants.{Numb
 use Rattle.conversation_rules.specs.Amounts.{same_amount, same_id}
 use Rattle.conversation_rules.specs.Answers.{Each as Taken, stray_of, are_told, behind_not_owed, behind_found, rest_of, target_of, behind_single, target_in_array, with_found, with_reply, each_of, behind_strays, new_each, none_fits, batch_rest, behind_answers_of, behind_answers}
 use Rattle.conversation_rules.specs.Dues as dues
-use Rattle.conversation_rules.specs.Dues.{owed_more, is_open, closed, maybe_answered, any_owed, is_asked, cancelled, cancelled_in, with_entries, settled_entry, settled, unreadable_target, array_target, settled_batch, found_batch}
+use Rattle.conversation_rules.specs.Dues.{owed_more, is_open, closed, any_owed, is_asked, cancelled, cancelled_in, with_entries, settled_entry, settled, unreadable_target, array_target, settled_batch, found_batch}
 use Rattle.conversation_rules.specs.Matching.{is_request_for}
 use Rattle.conversation_rules.specs.Owed.{Owed, Due, has_id, is_expected}
 use Rattle.conversation_rules.specs.Runs.{is_in, has_number, joined, with_number, neighbours}
@@ -97,9 +97,6 @@ module _ (b : ℕ) where
   closed_below [] is = tt
   closed_below (due ∷ []) is = last_below (is_open due) due is.0
   closed_below (due ∷ next ∷ rest) is = (is.0, closed_below (next ∷ rest) is.1)
-
-  pub marked_below : (all : List Due) → OwedBelow b all → OwedBelow b (map maybe_answered all)
-  marked_below all is = all-map (DueBelow b) (DueBelow b) maybe_answered (λ due one. one) all is
 
   cancelled_one : (settles : Bool) (id : WrittenId) (owed : Owed) → OneBelow b owed → OneBelow b (cancelled settles id owed)
   cancelled_one settles id owed is = from (is_request_for id owed)

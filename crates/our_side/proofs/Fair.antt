@@ -19,10 +19,10 @@ use Rattle.conversation_reading.specs.declared.reading.Reading.TheVariants.{Fore
 use Rattle.conversation_rules.specs.Amounts.{is_plain, is_null}
 use Rattle.conversation_rules.specs.Answers.{reply_of}
 use Rattle.conversation_rules.specs.Contents.{content_outcome, next_message, counted, sight_of, opened, have_huge, not_json_rule, are_answers, replies_in, reply_ids}
-use Rattle.conversation_rules.specs.Dues.{is_asked, unanswered}
+use Rattle.conversation_rules.specs.Dues.{is_asked}
 use Rattle.conversation_rules.specs.Entries.{is_request, is_answer, is_both, form_findings, again_findings, request_findings, id_findings, behind_entry}
 use Rattle.conversation_rules.specs.Owed.{has_twice}
-use Rattle.conversation_rules.specs.Judging.{Seen, stream_of, state_of, fault_rule, fault_finding, fault_findings_of, fault_findings, unanswered_finding, is_excused, unanswered_findings, findings_of}
+use Rattle.conversation_rules.specs.Judging.{Seen, stream_of, state_of, fault_rule, fault_finding, fault_findings_of, fault_findings, unanswered_finding, is_excused, left_unanswered, unanswered_findings, findings_of}
 use Rattle.conversation_rules.specs.Protocols.{is_mcp, odd_id_level}
 use Rattle.conversation_rules.specs.Speakers.{Speaker, Pair, found, found_if}
 use Rattle.conversation_rules.specs.Used.{is_used}
@@ -172,7 +172,7 @@ left_each P side end broken [] is = tt
 left_each P side end broken (u ∷ all) is = (is u, left_each P side end broken all is)
 
 pub unanswered_each : (P : Finding → Type 0) (protocol : Protocol) (side : Side) (end : HowEnded) (pair : Pair) → ((u : Unanswered) → P (unanswered_finding side end (pair.own.is_over || pair.other.is_over) u)) → Each P (unanswered_findings protocol side end pair)
-unanswered_each P protocol side end pair is = or_each P (is_excused protocol side pair) [] _ tt (left_each P side end (pair.own.is_over || pair.other.is_over) (unanswered pair.other.owed) is)
+unanswered_each P protocol side end pair is = or_each P (is_excused protocol side pair) [] _ tt (left_each P side end (pair.own.is_over || pair.other.is_over) (left_unanswered pair.other) is)
 
 -- ---- our own side
 

@@ -4,7 +4,7 @@ use Rattle.std.proofs.lemmas.List.{take-append-le}
 use Rattle.std.specs.Prelude.{⊤}
 use Rattle.lsp_frames.specs.declared.frame.Frame.{Frame}
 use Rattle.lsp_frames.specs.declared.frame.FrameFault.{FrameFault}
-use Rattle.lsp_frames.specs.declared.frame.FrameFault.TheVariants.{BadHead, BadLength, TwoLengths, TooLarge, NoLength, HeadTooLong, Truncated}
+use Rattle.lsp_frames.specs.declared.frame.FrameFault.TheVariants.{BadHead, BadLength, TwoLengths, TooLarge, NoLength, HeadTooLong, Truncated, LongLength}
 use Rattle.content_streams.specs.Streams.{Stream, placed_contents}
 use Rattle.content_streams.specs.declared.framing.Framing.{Framing}
 use Rattle.conversation_reading.specs.Strictly.{reading_of}
@@ -45,6 +45,7 @@ no_rule TooLarge = refl
 no_rule NoLength = refl
 no_rule HeadTooLong = refl
 no_rule Truncated = refl
+no_rule LongLength = refl
 
 module _ (protocol : Protocol) (side : Side) (mine yours : Stream) where
   abbrev P : Finding → Type 0

@@ -6,7 +6,7 @@ use Rattle.conversation_reading.specs.declared.entry.Entry.{Entry}
 use Rattle.conversation_reading.specs.declared.entry.WrittenId.{WrittenId}
 use Rattle.conversation_reading.specs.declared.reading.Reading.{Reading}
 use Rattle.conversation_reading.specs.declared.reading.Reading.TheVariants.{Foreign, NotText, NotJson, TooDeep, HalfPair, Single, Array}
-use Rattle.conversation_rules.specs.Answers.{Each as Taken, cancelled_code_level, fit_findings, stray_of, not_owed_level, not_owed, each_not_owed, are_told, not_owed_findings, behind_not_owed, single_fit_findings, single_findings_of, rest_of, target_of, single_findings, or_note, taken_findings, array_findings, are_well, among_findings, target_in_array, apart_findings, with_found, with_reply, each_of, strays_findings, new_each, none_fits, each_findings, answers_findings_of, batch_rest, answers_findings}
+use Rattle.conversation_rules.specs.Answers.{Each as Taken, cancelled_code_level, fit_findings, stray_of, not_owed_level, refuses, not_owed, each_not_owed, are_told, not_owed_findings, behind_not_owed, single_fit_findings, single_findings_of, rest_of, target_of, single_findings, or_note, taken_findings, array_findings, are_well, among_findings, target_in_array, apart_findings, with_found, with_reply, each_of, strays_findings, new_each, none_fits, each_findings, answers_findings_of, batch_rest, answers_findings}
 use Rattle.conversation_rules.specs.Contents.{Outcome, not_json_rule, sight_of, opened, single_answer_findings, single_outcome, empty_outcome, are_answers, batch_findings, entries_findings, replies_in, reply_ids, have_huge, array_outcome, line_end_findings, behind_line_end, reading_outcome}
 use Rattle.conversation_rules.specs.Dues as dues
 use Rattle.conversation_rules.specs.Dues.{settled, found_batch, unreadable_target}
@@ -163,7 +163,9 @@ module _ (P : Finding → Type 0) (message : Message) (answering : Answering P m
       (fit_each protocol sight reply fit)
 
   single_found_each : (protocol : Protocol) (sight : Sight) (reply : Reply) (rest : List Due) (o : Option Found) → Each P (single_findings_of protocol sight message reply rest o)
-  single_found_each protocol sight reply rest None = not_owed_each sight (stray_of reply ∷ []) rest
+  single_found_each protocol sight reply rest None =
+      each_unless P (refuses sight.refused reply rest) (found message reply.at rules.NotOwed Note ∷ []) (not_owed_findings sight message (stray_of reply ∷ []) rest)
+      (answering.not_owed reply.at Note, tt) (not_owed_each sight (stray_of reply ∷ []) rest)
   single_found_each protocol sight reply rest (Some Whole) = tt
   single_found_each protocol sight reply rest (Some (EntryFit fit)) = single_fit_each protocol sight reply fit
 

@@ -41,7 +41,7 @@ pub fn a_batch_of_too_many_is_answered_once()
     ensures lawful { IsLawful None too_many }
     ensures said { messages_of AsAnswered too_many ≡ answer Null (Standard InvalidRequest) ∷ [] }
     ensures found { told JsonRpc (says Client (array_of (request (codes "1") ∷ request (codes "2") ∷ []))
-        ∷ says Server (null_answer (codes "-32600")) ∷ []) ≡ tells Server rules.NotOwed Must 1 0 ∷ [] }
+        ∷ says Server (null_answer (codes "-32600")) ∷ []) ≡ tells Server rules.NotOwed Note 1 0 ∷ [] }
 {}
 
 /// With MCP's cancels a host may leave a cancelled request without an answer, or answer it all the same. Where a client uses

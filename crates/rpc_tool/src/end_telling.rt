@@ -82,7 +82,7 @@ fn name_of(close: Close) -> &'static str {
     match close {
         Close::Clean => "Clean",
         Close::Frame(FrameFault::BadHead) => "BadHead",
-        Close::Frame(FrameFault::BadLength) => "BadLength",
+        Close::Frame(FrameFault::BadLength | FrameFault::LongLength) => "BadLength",
         Close::Frame(FrameFault::TwoLengths) => "TwoLengths",
         Close::Frame(FrameFault::TooLarge) => "TooLarge",
         Close::Frame(FrameFault::NoLength) => "NoLength",

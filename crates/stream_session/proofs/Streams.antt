@@ -19,7 +19,7 @@ use Rattle.rpc_messages.specs.Unit.{SeenUnit, unit_of, units_of}
 use Rattle.rpc_messages.proofs.Units.{taken-uncut, taken-cut, is_cut-cut}
 use Rattle.method_steps.specs.Steps.{MethodTable}
 use Rattle.handler_future.specs.State.{HandlerState}
-use Rattle.stream_session.specs.Promise.{close_of}
+use Rattle.stream_session.specs.Promise.{close_of, told}
 use Rattle.peer_session.specs.Events.{TakesUnit, LeavesAt, ended, picked, with_job_back}
 use Rattle.peer_session.specs.SessionState.{SessionState, new_session}
 use Rattle.peer_session.specs.Turned.{Turned}
@@ -44,7 +44,7 @@ use Rattle.stream_session.proofs.Written.{starts}
 -- how it ends, as its decoder tells
 abbrev pub how_ended : End → Close
 how_ended end.Clean = Clean
-how_ended (end.Fault fault) = close.Frame fault
+how_ended (end.Fault fault) = close.Frame (told fault)
 
 pub close-finished : (standing : Standing) → close_of false standing Finished ≡ Some (how_ended (end_of standing))
 close-finished (contents.Open []) = refl
@@ -61,7 +61,7 @@ closed-stays false (contents.Open rest) before after goes_on closed = absurd (cl
 open-of : (last : Option Close) (standing : Standing) (ending : Ending) → last ≡ None → last ≡ close_of false standing ending
     → (rest : List ℕ) × (standing ≡ contents.Open rest)
 open-of last (contents.Open rest) ending none is = (rest, refl)
-open-of last (contents.Broken fault) ending none is = absurd (let clash : None ≡ Some (close.Frame fault) = sym none ∙ is in cc)
+open-of last (contents.Broken fault) ending none is = absurd (let clash : None ≡ Some (close.Frame (told fault)) = sym none ∙ is in cc)
 
 pub was-none : (last : Option Close) (answer : Bool) → answer ≡ is_some last → answer ≡ false → last ≡ None
 was-none None answer is says = refl
@@ -291,7 +291,7 @@ module _ (laws : Known) (fed : Fed) (jobs : ℕ → Option HandlerState) (s : St
           let left = rest_open stands.0 (goes_on stands.0 stands.2) in
           cut-by (is ∙ sym (ap (λ standing. close_of false standing fed.ending) left.1 ∙ ap (close_of false (contents.Open left.0)) unfinished))
 
-      pub cut-broken : (fault : FrameFault) → ((left : Standing) → Knows cutter left → left ≡ contents.Broken fault) → last ≡ Some (close.Frame fault)
+      pub cut-broken : (fault : FrameFault) → ((left : Standing) → Knows cutter left → left ≡ contents.Broken fault) → last ≡ Some (close.Frame (told fault))
           → StreamStands (with_piece fed piece) jobs (record { cutter = cutter; waiting = given; last = last; session = s.session }) sink
       cut-broken fault broken is =
           cut-by (is ∙ sym (ap (λ standing. close_of false standing fed.ending) (broken stands.0 stands.2)))

@@ -4,7 +4,8 @@ use Rattle.std.specs.Io.KnownBytes.{Appends}
 use Rattle.lsp_frames.specs.Contents.{Standing, Open, Broken, IsContents}
 use Rattle.lsp_frames.specs.Devices.{Ending, Gift, Unfinished, Finished, Failed}
 use Rattle.lsp_frames.specs.declared.frame.Frame.{Frame as FrameOf}
-use Rattle.lsp_frames.specs.declared.frame.FrameFault.TheVariants.{Truncated}
+use Rattle.lsp_frames.specs.declared.frame.FrameFault.{FrameFault}
+use Rattle.lsp_frames.specs.declared.frame.FrameFault.TheVariants.{BadHead, BadLength, TwoLengths, TooLarge, NoLength, HeadTooLong, Truncated, LongLength}
 use Rattle.rpc_messages.specs.Numbering.{taken, is_cut, units_numbers}
 use Rattle.rpc_messages.specs.Unit.{units_of}
 use Rattle.method_steps.specs.Steps.{MethodTable}
@@ -27,10 +28,21 @@ abbrev pub end_close : List ℕ → Close
 end_close [] = Clean
 end_close (b ∷ bytes) = Frame Truncated
 
+-- A fault of the frames as this peer tells it: a length of more than 10 digits is a bad one, as any value that isn't 1 to 10 digits.
+abbrev pub told : FrameFault → FrameFault
+told BadHead = BadHead
+told BadLength = BadLength
+told TwoLengths = TwoLengths
+told TooLarge = TooLarge
+told NoLength = NoLength
+told HeadTooLong = HeadTooLong
+told Truncated = Truncated
+told LongLength = BadLength
+
 -- An input whose units were cut for their numbers is full. Else a fault of its frames closed it, or a failed read, or its end; while more may come, nothing has.
 abbrev pub close_of : Bool → Standing → Ending → Option Close
 close_of true standing ending = Some Full
-close_of false (Broken fault) ending = Some (Frame fault)
+close_of false (Broken fault) ending = Some (Frame (told fault))
 close_of false (Open rest) Failed = Some Read
 close_of false (Open rest) Finished = Some (end_close rest)
 close_of false (Open rest) Unfinished = None

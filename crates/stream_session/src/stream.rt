@@ -14,7 +14,7 @@ ghost use Rattle.peer_session.specs.Framings.{due_in};
 ghost use Rattle.peer_session.specs.HandedOn.{HandsOn};
 ghost use Rattle.stream_framing.specs.Framed.{Holds, Knows, framing_of, limit_of};
 ghost use Rattle.stream_framing.specs.declared.framing.Framing.TheVariants.{Frames};
-ghost use Rattle.stream_session.specs.Promise.{close_of};
+ghost use Rattle.stream_session.specs.Promise.{close_of, told};
 ghost use Rattle.peer_session.specs.Session.{view};
 ghost use Rattle.peer_session.specs.SessionState.{IsDone, report_of};
 ghost use Rattle.peer_session.specs.Turned.{Turned};
@@ -23,7 +23,7 @@ ghost use Rattle.stream_session.specs.Stream.{Fed, IsTaken, StopsShort, StreamSt
 
 use crate::known::known;
 use crate::next::{InputEnd, Next};
-use lsp_frames::{End, FeedFault, Frame, Sink};
+use lsp_frames::{End, FeedFault, Frame, FrameFault, Sink};
 use method_steps::Table;
 use peer_session::{Close, DrainFault, Job, Limits, Report, Session};
 use std::alloc::{AllocError, Global};
@@ -104,7 +104,7 @@ impl<'a> StreamSession<'a> {
             Ok(contents) => self.waiting = VecDeque::from_vec(contents),
             Err(FeedFault::Ended(fault, contents)) => {
                 self.waiting = VecDeque::from_vec(contents.into_vec());
-                self.last = Some(Close::Frame(fault));
+                self.last = Some(Close::Frame(told(fault)));
             }
             Err(FeedFault::Memory) => return Err(AllocError),
         }
@@ -326,6 +326,16 @@ fn take_last(session: &mut Session<'_>, last: Option<Close>)
     }
 }
 
+/// A fault of the frames as this peer tells it: it makes no difference between the lengths that aren't 1 to 10 digits.
+fn told(fault: FrameFault) -> FrameFault
+    ensures { result ≡ told fault }
+{
+    match fault {
+        FrameFault::LongLength => FrameFault::BadLength,
+        other => other,
+    }
+}
+
 /// How an input closes that ends behind what was fed.
 fn close_at(cutter: &Cutter) -> Close
     ensures { (bytes : List ℕ) (frames : List FrameOf) (left : Standing) →
@@ -334,6 +344,6 @@ fn close_at(cutter: &Cutter) -> Close
 {
     match cutter.end() {
         End::Clean => Close::Clean,
-        End::Fault(fault) => Close::Frame(fault),
+        End::Fault(fault) => Close::Frame(told(fault)),
     }
 }

@@ -21,7 +21,11 @@ class Rule(NamedTuple):
 
 #: The rules that the library judges, in its order, which is that of docs/judge.md.
 PROVED: Tuple[Rule, ...] = (
-    Rule("head", "LSP, Base Protocol", "a line of a head that isn't one, two lengths, or none"),
+    Rule(
+        "head",
+        "LSP, Base Protocol",
+        "a header line that isn't one, a length that is no number, two lengths, or none",
+    ),
     Rule("not-json", "JSON-RPC 4; RFC 8259; MCP, stdio", "a content that isn't JSON in UTF-8"),
     Rule("charset", "LSP, Base Protocol", "a Content-Type that names another charset than UTF-8"),
     Rule("cut-off", "LSP, Base Protocol; MCP, stdio", "the end came inside a message"),

@@ -243,16 +243,15 @@ class Talk:
         it = amended(found, message, self.edition)
         if it is None or it.words:
             return it and it._replace(words=f"{it.words}: {quoted(message.content)}")
-        if it.rule == "not-owed" and self._is_refusal(message):
-            words = f"an array may be refused where there are no batches: {quoted(message.content)}"
-            return it._replace(level=NOTE, words=words)
+        if it.rule == "not-owed" and it.level != NOTE and self._is_refusal(message):
+            return it._replace(level=NOTE, words=f"{self._refused()}: {quoted(message.content)}")
         return it._replace(words=f"{self._hint(it, message)}{quoted(message.content)}")
 
     def _is_refusal(self, message: Message) -> bool:
-        """Whether it says that an array is no message, once for each. (Where an array has something that is owed an
-        answer, the library takes it for that.)"""
+        """Whether it may refuse an array that nothing is owed to, once for each. (Where an array has something that is owed
+        an answer, the library takes it for that.)"""
         other = self.sides[OTHER[message.side]]
-        if message.is_array or of_library(self.rules) not in _NO_BATCHES or not other.arrays:
+        if message.is_array or not other.arrays:
             return False
         (entry,) = message.entries
         if entry.id is not None or entry.error is ABSENT:
@@ -260,14 +259,22 @@ class Talk:
         other.arrays -= 1
         return True
 
+    def _refused(self) -> str:
+        if of_library(self.rules) in _NO_BATCHES:
+            return "an array may be refused where there are no batches"
+        return "a batch may be refused whole"
+
     def _hint(self, it: Finding, message: Message) -> str:
-        """Which members stand twice; or what may have been meant by an answer that nobody waits for: an id of another
-        type."""
+        """Which members stand twice; or what may have been meant by an answer that nobody waits for: a refusal, or an id
+        of another type."""
         if it.rule == "twice":
             return f"{', '.join(twice_in(message.content, it.entry))}: "
         if it.rule != "not-owed" or len(message.entries) < it.entry:
             return ""
-        id_ = message.entries[max(it.entry, 1) - 1].id
+        entry = message.entries[max(it.entry, 1) - 1]
+        if it.level == NOTE and entry.id is None and entry.error is not ABSENT:
+            return "it may refuse what is open: "
+        id_ = entry.id
         twin = key_of(str(id_)) if not isinstance(id_, str) else _number(id_)
         if twin is None or twin not in self.sides[OTHER[message.side]].open:
             return ""

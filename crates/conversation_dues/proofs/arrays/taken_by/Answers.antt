@@ -1,17 +1,14 @@
-use Rattle.std.proofs.Common.{◌∙◌, sym}
-use Rattle.std.specs.List.{slice_get}
-use Rattle.conversation_ids.specs.Ways.{fits}
-use Rattle.conversation_ids.specs.declared.ways.Way.TheVariants.{MustHave}
-use Rattle.conversation_dues.proofs.Left.{position-left, taken-must, taken-rather}
+use Rattle.std.proofs.Common.{◌∙◌, ap, sym}
+use Rattle.conversation_dues.specs.Found.{index_of}
+use Rattle.conversation_dues.specs.Left.{index_in, left_entries}
+use Rattle.conversation_dues.proofs.Left.{taken-must, taken-rather}
 use Rattle.conversation_dues.proofs.arrays.taken_by.Goals as goal
 
 pub returns-in-Some : goal.returns-in-Some
 returns-in-Some c = λ left is.
-    taken-must c.args.id.now left c.in-Some.index
-    (sym (position-left (fits MustHave c.args.id.now) (slice_get c.args.entries.now) c.args.places.now left is) ∙ sym c.place_of.ensures ∙ c.in-Some.is)
+    taken-must c.args.id.now left (index_of c.in-Some.number (left_entries c.args.places.now)) (sym (c.first.ensures left is) ∙ ap (index_in c.args.places.now) c.in-Some.is)
 
 pub returns-in-None : goal.returns-in-None
 returns-in-None c = λ left is.
-    taken-rather c.args.id.now left c.taken_rather.result
-    (sym (position-left (fits MustHave c.args.id.now) (slice_get c.args.entries.now) c.args.places.now left is) ∙ sym c.place_of.ensures ∙ c.in-None.is)
+    taken-rather c.args.id.now left (index_in c.args.places.now c.taken_rather.result) (sym (c.first.ensures left is) ∙ ap (index_in c.args.places.now) c.in-None.is)
     (c.taken_rather.ensures left is)

@@ -1,4 +1,4 @@
-use Rattle.std.proofs.Common.{◌+◌, ◌∷◌, ◌∙◌, ap, sym, drop, length, arith}
+use Rattle.std.proofs.Common.{◌+◌, ◌∷◌, ◌∙◌, ap, sym, drop, arith}
 use Rattle.conversation_dues.proofs.Marked.{unanswered_by}
 use Rattle.conversation_dues.proofs.Steps.{drop_here, drop_past}
 use Rattle.conversation_dues.proofs.Targeted.{some_ids}

@@ -1,4 +1,3 @@
-use Rattle.std.proofs.Common.{◌<◌, arith}
 use Rattle.conversation_dues.specs.Found.{place_of}
 use Rattle.conversation_dues.proofs.Firsts.{scan_first, scan_next, scan_none, scan_found}
 use Rattle.conversation_open.specs.Open.{open_entries}

@@ -2,7 +2,7 @@ use Rattle.std.proofs.Common.{◌∙◌, ap, sym}
 use Rattle.conversation_dues.proofs.Marked.{way_none}
 use Rattle.conversation_ids.specs.OwedMarks.{entry_has}
 use Rattle.conversation_ids.specs.Ways.{fits}
-use Rattle.conversation_ids.specs.declared.ways.Way.TheVariants.{Asks, Expects, MayHave, MustHave, Unnamed}
+use Rattle.conversation_ids.specs.declared.ways.Way.TheVariants.{Asks, Expects, MayHave, Unnamed}
 use Rattle.conversation_dues.proofs.sought.mark_of_way.Goals as goal
 
 pub returns-in-Asks : goal.returns-in-Asks
@@ -16,10 +16,6 @@ returns-in-Expects c = λ owed none.
 pub returns-in-MayHave : goal.returns-in-MayHave
 returns-in-MayHave c = λ owed none.
     ap (λ way. fits way c.args.id.now owed) c.in-MayHave.is ∙ way_none MayHave c.args.id.now owed (ap (λ mark. entry_has mark owed) (sym c.mark_of-in-MayHave.ensures) ∙ none)
-
-pub returns-in-MustHave : goal.returns-in-MustHave
-returns-in-MustHave c = λ owed none.
-    ap (λ way. fits way c.args.id.now owed) c.in-MustHave.is ∙ way_none MustHave c.args.id.now owed (ap (λ mark. entry_has mark owed) (sym c.mark_of-in-MustHave.ensures) ∙ none)
 
 pub returns-in-Unnamed : goal.returns-in-Unnamed
 returns-in-Unnamed c = λ owed none.

@@ -1,5 +1,5 @@
 -- What the decoder gives of the piece waits, with the fault that it found; a closed session lets it go.
-use Rattle.std.proofs.Common.{◌≡◌, ◌++◌, Err, Some, refl, sym, subst, ◌∙◌}
+use Rattle.std.proofs.Common.{◌≡◌, ◌++◌, Err, Some, ap, refl, sym, subst, ◌∙◌}
 use Rattle.lsp_frames.specs.Contents.{Standing, Broken}
 use Rattle.lsp_frames.specs.Decoding.{IfFed, IfEnded}
 use Rattle.lsp_frames.specs.declared.fault.FeedFault.{FeedFault}
@@ -38,7 +38,7 @@ returns-in-Err-Ended-clause-fed c = λ fed jobs sink had goes_on.
     let B : FeedFault → Type 0 = λ f. IfEnded (Err f) (λ fault. (left : Standing) → Knows cutter left → left ≡ Broken fault) in
     let broken : (left : Standing) → Knows cutter left → left ≡ Broken c.in-Err-Ended.fault = subst B c.in-Err-Ended.field-0-is c.in-Err-Ended.ensures.ended in
     subst (λ contents. StreamStands (with_piece fed c.args.piece.now) jobs
-    (record { cutter = cutter; waiting = contents; last = Some (Frame c.in-Err-Ended.fault); session = s.session }) sink)
+    (record { cutter = cutter; waiting = contents; last = Some (Frame c.told.result); session = s.session }) sink)
     (sym (c.from_vec-in-Err-Ended.ensures.items ∙ c.into_vec.ensures))
     (cut-broken c.known.ensures fed jobs s sink now is_open c.in_ok-take_all.ensures.takes.none_waits c.args.piece.now cutter c.in-Err-Ended.contents
-    stands c.in-Err-Ended.ensures.framing c.in-Err-Ended.ensures.limit (Some (Frame c.in-Err-Ended.fault)) c.in-Err-Ended.fault broken refl)
+    stands c.in-Err-Ended.ensures.framing c.in-Err-Ended.ensures.limit (Some (Frame c.told.result)) c.in-Err-Ended.fault broken (ap (λ fault. Some (Frame fault)) c.told.ensures))
