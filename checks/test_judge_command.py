@@ -239,7 +239,7 @@ def test_refused_words(words: list[str]) -> None:
 
 def test_help_tells_the_options() -> None:
     status, output, _ = ran.run(["judge", "--help"])
-    for it in (b"--rules <NAME>", b"--frames", b"--lines", b"--contents", b"mcp:2025-03-26"):
+    for it in (b"--rules <NAME>", b"--frames", b"--lines", b"--contents", b"mcp:2025-06-18", b"mcp:2024-11-05"):
         check(status == 0 and it in output, f"no {it!r} in {output!r}")
 
 

@@ -390,7 +390,7 @@ def test_many_requests_go_in_a_round(workers: str) -> None:
     check(writes <= MANY // ROUND, f"{writes} writes")
 
 
-IDLE, PINGS, TURNS = 3, 200, 3
+IDLE, PINGS, TURNS = 3, 200, 10
 # The most processor time of a request behind a pause, in seconds: a thread that has slept looks only a few times before the
 # next sleep.
 BEHIND_A_PAUSE = 350e-6
@@ -398,11 +398,13 @@ BEHIND_A_PAUSE = 350e-6
 
 def least(measure: Callable[[], float], bound: float) -> float:
     """The least of some turns, up to one that is within the bound: a machine whose processors are taken away for a while
-    makes a turn longer, and a server that does too much takes too long in each."""
+    makes turns longer, and a server that does too much takes too long in each. Such a while may be longer than three
+    turns, so these lie ever further apart: more than half a minute if all are needed."""
     found = measure()
-    for _ in range(TURNS - 1):
+    for pause in range(TURNS - 1):
         if found < bound:
             break
+        time.sleep(pause)
         found = min(found, measure())
     return found
 

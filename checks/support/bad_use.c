@@ -187,7 +187,7 @@ static void options_of_a_judge(void)
     static const bm_judge_options right[] = {
         {.size = WHOLE},
         {.size = WHOLE,
-         .rules = BM_RULES_MCP_2025_03_26,
+         .rules = BM_RULES_MCP_2024_11_05,
          .framing = BM_CONTENTS,
          .content = 1 << 24,
          .ids = UINT32_MAX},

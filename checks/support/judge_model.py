@@ -1,6 +1,6 @@
 """A plain model of the judge, by the rules of docs/judge.md: what is found in what was seen of two sides."""
 from collections import Counter
-from dataclasses import dataclass, field
+from dataclasses import dataclass, field, replace
 from typing import Any, Callable, Iterator, NamedTuple, Optional
 
 from support import judge_reading as reading
@@ -259,7 +259,7 @@ class Judge:
         if unit.is_array:
             self.take_array(side, answers, place, are_answers)
         elif answers:
-            self.take_single(side, answers[0])
+            self.take_single(side, self.sought(answers[0]))
 
     def owe(self, side: str, due: Due) -> None:
         self.sides[side].dues.append(due)
@@ -270,7 +270,8 @@ class Judge:
         """What an entry breaks by itself, and what it is owed."""
         its = self.sides[side]
         for fault in entry.faults:
-            self.find(side, fault, MUST, place, words)
+            if fault != "id" or not (self.rules.leaves_ids_out and entry.lacks_id):
+                self.find(side, fault, MUST, place, words)
         if entry.is_both:
             self.find(side, "both-kinds", MUST, place, words)
         if entry.first is not None:
@@ -334,7 +335,8 @@ class Judge:
     def take_cancel(self, side: str, entry: Entry, place: Place, words: str) -> None:
         its, target = self.sides[side], self.target_of(entry.params)
         if target is ABSENT:
-            self.find(side, "cancel-params", MUST, place, words)
+            level = NOTE if self.rules.leaves_ids_out and self.names_none(entry.params) else MUST
+            self.find(side, "cancel-params", level, place, words)
             return
         if target not in its.used and not its.used.is_full:
             is_must = self.rules.ids_once and not its.has_unreadable
@@ -348,6 +350,13 @@ class Judge:
             owed.is_cancelled = True
             owed.must = owed.must and not self.rules.cancel_settles
 
+    @staticmethod
+    def names_none(params: Any) -> bool:
+        """Whether the params of MCP's cancel name no request, and have nothing wrong."""
+        members = dict(params) if isinstance(params, Members) else None
+        is_well = members is not None and isinstance(members.get("reason", ""), str) and "requestId" not in members
+        return params is ABSENT or is_well
+
     def target_of(self, params: Any) -> Any:
         """The id that a cancel names, or ABSENT where its params aren't a cancel's."""
         if not isinstance(params, Members):
@@ -359,6 +368,11 @@ class Judge:
         return id_ if is_id and not (has_reason and not isinstance(members.get("reason"), str)) else ABSENT
 
     # Answers
+
+    def sought(self, answer: Answer) -> Answer:
+        """An error that may be without an id is looked for by null."""
+        is_without = self.rules.leaves_ids_out and answer.entry.lacks_id
+        return answer._replace(entry=replace(answer.entry, id=None)) if is_without else answer
 
     def take_single(self, side: str, answer: Answer) -> None:
         """An answer that stands alone."""

@@ -201,7 +201,12 @@ def unknown_cancel(side: str, rules: str) -> list[Step]:
 
 
 def wrong_cancel(side: str, rules: str) -> list[Step]:
-    return alone(side, text_of(notification(RULES[rules].cancel, params={"ids": [1]})), "cancel-params")
+    level = NOTE if RULES[rules].leaves_ids_out else MUST
+    return alone(side, text_of(notification(RULES[rules].cancel, params={"ids": [1]})), "cancel-params", level)
+
+
+def cancel_of_null(side: str, rules: str) -> list[Step]:
+    return alone(side, text_of(cancel(rules, None)), "cancel-params")
 
 
 def cancelled_initialize(side: str, rules: str) -> list[Step]:
@@ -236,7 +241,8 @@ class Plant(NamedTuple):
     framings: tuple[str, ...] = ("frames", "lines", "contents")
 
 
-LSP, MCP, CANCELS = ("lsp",), ("mcp", "mcp:2025-03-26"), ("lsp", "mcp", "mcp:2025-03-26")
+LSP, MCP = ("lsp",), tuple(it for it in RULES if it.startswith("mcp"))
+CANCELS, HAVE_IDS = (*LSP, *MCP), tuple(it for it in RULES if it != "mcp")
 ASK, BOTH = request(FIRST), {**result(FIRST), "error": None}
 PLANTS = (
     Plant("head", no_head, framings=("frames",)),
@@ -248,6 +254,8 @@ PLANTS = (
     Plant("method", value("method", notification(5))),  # type: ignore[arg-type]
     Plant("params", value("params", notification("a", params=None))),
     Plant("id", value("id", request([FIRST]))),
+    Plant("id", value("id", {"jsonrpc": "2.0", "result": {}})),
+    Plant("id", value("id", {"jsonrpc": "2.0", "error": {"code": 5, "message": "m"}}), rules=HAVE_IDS),
     Plant("outcome", asked("outcome", ASK, BOTH)),
     Plant("error", asked("error", ASK, {"jsonrpc": "2.0", "id": FIRST, "error": "no"})),
     Plant("both-kinds", both_kinds),
@@ -255,7 +263,7 @@ PLANTS = (
     Plant("twice", method_twice),
     Plant("twice", answer_twice),
     Plant("empty-array", value("empty-array", [])),
-    Plant("batch", batch, rules=("lsp", "mcp")),
+    Plant("batch", batch, rules=tuple(it for it in RULES if RULES[it].batch)),
     Plant("not-owed", value("not-owed", result(FIRST))),
     Plant("not-owed", another_type),
     Plant("not-owed", twice),
@@ -269,6 +277,7 @@ PLANTS = (
     Plant("code", asked("code", ASK, error(FIRST, -32500))),
     Plant("cancelled-code", asked("cancelled-code", ASK, error(FIRST, -32800), SHOULD), rules=LSP),
     Plant("cancel-params", wrong_cancel, rules=CANCELS),
+    Plant("cancel-params", cancel_of_null, rules=CANCELS),
     Plant("cancel-unknown", unknown_cancel, rules=CANCELS),
     Plant("cancel-initialize", cancelled_initialize, rules=MCP),
     Plant("after-cancel", late_answer, rules=MCP),

@@ -198,6 +198,7 @@ class Entry:
     params: Any = ABSENT
     error: Any = ABSENT  # (of an answer)
     is_both: bool = False  # it has a method and an id, and a result or an error too
+    lacks_id: bool = False  # it is an error alone, and has no id
     first: Optional[First] = None  # where a member of it stands twice
 
     @property
@@ -287,7 +288,8 @@ def entry_of(value: Any) -> Entry:
     is_like = "result" in members or "error" in members
     is_broken = bool(faults) or first is not None
     kind = "invalid" if not is_like else "broken answer" if is_broken else "answer"
-    return Entry(kind, faults, id_, is_odd, error=members.get("error", ABSENT), first=first)
+    lacks_id = "error" in members and not {"id", "result"} & {*members}
+    return Entry(kind, faults, id_, is_odd, error=members.get("error", ABSENT), lacks_id=lacks_id, first=first)
 
 
 class Unit(NamedTuple):

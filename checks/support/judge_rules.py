@@ -73,12 +73,13 @@ class Rules(NamedTuple):
     cancel_settles: bool = False  # a request whose cancel was seen is owed no longer
     ids_once: bool = False  # an id may never be used again
     ends_by_close: bool = False  # a client ends the session by its end
+    leaves_ids_out: bool = False  # an error may be without an id, and a cancel without that of a request
     defined: frozenset[int] = frozenset(DEFINED)
     reserved: tuple[range, ...] = (RESERVED,)
 
 
 MCP = Rules(
-    "mcp",
+    "mcp:2025-06-18",
     MUST,
     MUST,
     may_leave_null=True,
@@ -102,7 +103,9 @@ RULES = {
             defined=frozenset({*DEFINED, *range(-32803, -32799)}),
             reserved=(RESERVED, range(-32899, -32799)),
         ),
+        MCP._replace(name="mcp", leaves_ids_out=True),
         MCP,
         MCP._replace(name="mcp:2025-03-26", batch=None),
+        MCP._replace(name="mcp:2024-11-05", batch=NOTE),
     )
 }

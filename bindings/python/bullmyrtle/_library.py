@@ -22,8 +22,8 @@ FRAMINGS = ("frames", "lines", "contents")
 ORDERS = ("as-answered", "as-came")
 #: Whose cancels there are.
 CANCELS = (None, "lsp", "mcp")
-#: Whose rules the judge knows.
-RULES = ("jsonrpc", "lsp", "mcp", "mcp:2025-03-26")
+#: Whose rules the judge knows, in the order of bullmyrtle.h; "mcp" is MCP 2025-11-25.
+RULES = ("jsonrpc", "lsp", "mcp", "mcp:2025-06-18", "mcp:2025-03-26", "mcp:2024-11-05")
 
 
 def _places() -> List[str]:

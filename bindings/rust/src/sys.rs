@@ -64,7 +64,9 @@ pub const BM_SAY_CANCEL: u32 = 8;
 pub const BM_RULES_JSONRPC: u32 = 0;
 pub const BM_RULES_LSP: u32 = 1;
 pub const BM_RULES_MCP: u32 = 2;
-pub const BM_RULES_MCP_2025_03_26: u32 = 3;
+pub const BM_RULES_MCP_2025_06_18: u32 = 3;
+pub const BM_RULES_MCP_2025_03_26: u32 = 4;
+pub const BM_RULES_MCP_2024_11_05: u32 = 5;
 
 pub const BM_CLIENT: u32 = 0;
 pub const BM_SERVER: u32 = 1;

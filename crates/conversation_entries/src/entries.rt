@@ -4,13 +4,13 @@ ghost use Rattle.std.specs.Prelude.{◌≡◌, ◌++◌, OnOk, Some, false};
 ghost use Rattle.std.specs.Option.{option_map_or};
 ghost use Rattle.conversation_entries.specs.Said.{said};
 ghost use Rattle.conversation_rules.specs.Entries as rules;
-ghost use Rattle.conversation_rules.specs.Entries.{fault_findings, both_findings, twice_findings, has_first_method, is_first_cancel, code_of, code_findings, name_findings, is_cancel, target_findings, cancel_findings, unknown_level};
+ghost use Rattle.conversation_rules.specs.Entries.{fault_findings, both_findings, twice_findings, has_first_method, is_first_cancel, code_of, code_findings, name_findings, is_cancel, may_lack_id, cancel_params_level, named_findings, cancel_findings, unknown_level};
 ghost use Rattle.conversation_rules.specs.Protocols as protocols;
 ghost use Rattle.conversation_rules.specs.Speakers.{found, found_if};
 
-use crate::protocols::{is_lsp, is_mcp};
+use crate::protocols::{is_lsp, is_mcp, may_leave_ids_out};
 use crate::speaker::Speaker;
-use conversation_reading::{Entry, Faults, First, Kind, Whole, WrittenId, whole_of};
+use conversation_reading::{Entry, First, Kind, There, Whole, WrittenId, whole_of};
 use conversation_rules::{Finding, Level, Message, Protocol, Rule};
 use std::alloc::AllocError;
 
@@ -40,16 +40,25 @@ pub fn put_if(
     Ok(())
 }
 
+/// Whether it is an error that needs no id.
+pub fn may_lack_id(protocol: Protocol, there: There) -> bool
+    ensures { result ≡ may_lack_id protocol there }
+{
+    may_leave_ids_out(protocol) && there.error && !(there.id || there.result)
+}
+
 /// Each rule by which it is no message.
 pub(crate) fn put_faults(
+    protocol: Protocol,
     findings: &mut Vec<Finding>,
     message: Message,
     at: u64,
-    faults: Faults,
+    entry: &Entry,
 ) -> Result<(), AllocError>
     ensures { OnOk result (findings.new.items
-        ≡ findings.old.items ++ fault_findings message at faults) }
+        ≡ findings.old.items ++ fault_findings protocol message at entry.now.there entry.now.faults) }
 {
+    let faults = entry.faults;
     put_if(
         faults.object,
         findings,
@@ -82,7 +91,8 @@ pub(crate) fn put_faults(
         Rule::Params,
         Level::Must,
     )?;
-    put_if(faults.id, findings, message, at, Rule::Id, Level::Must)?;
+    let lacks_id = faults.id && !may_lack_id(protocol, entry.there);
+    put_if(lacks_id, findings, message, at, Rule::Id, Level::Must)?;
     put_if(
         faults.outcome,
         findings,
@@ -278,7 +288,8 @@ fn has_cancel_method(protocol: Protocol, entry: &Entry) -> bool
     match protocol {
         Protocol::JsonRpc => false,
         Protocol::Lsp => has_method("$/cancelRequest", entry),
-        Protocol::Mcp | Protocol::McpWithBatches => has_method("notifications/cancelled", entry),
+        Protocol::Mcp | Protocol::Mcp20250618 | Protocol::Mcp20250326 | Protocol::Mcp20241105 =>
+            has_method("notifications/cancelled", entry),
     }
 }
 
@@ -289,10 +300,8 @@ pub(crate) fn is_first_cancel(protocol: Protocol, first: &First) -> bool
     match protocol {
         Protocol::JsonRpc => false,
         Protocol::Lsp => has_first_method("$/cancelRequest", first),
-        Protocol::Mcp | Protocol::McpWithBatches => has_first_method(
-            "notifications/cancelled",
-            first,
-        ),
+        Protocol::Mcp | Protocol::Mcp20250618 | Protocol::Mcp20250326 | Protocol::Mcp20241105 =>
+            has_first_method("notifications/cancelled", first),
     }
 }
 
@@ -315,6 +324,16 @@ fn unknown_level(protocol: Protocol, own: &Speaker) -> Level
     }
 }
 
+fn cancel_params_level(protocol: Protocol, entry: &Entry) -> Level
+    ensures { result ≡ cancel_params_level protocol entry.now }
+{
+    if may_leave_ids_out(protocol) && entry.cancels_none {
+        Level::Note
+    } else {
+        Level::Must
+    }
+}
+
 /// What a cancel breaks.
 pub(crate) fn put_cancel(
     protocol: Protocol,
@@ -332,7 +351,10 @@ pub(crate) fn put_cancel(
     }
     match &entry.target {
         Some(id) => put_target(protocol, findings, message, at, own, id),
-        None => put_if(true, findings, message, at, Rule::CancelParams, Level::Must),
+        None => {
+            let level = cancel_params_level(protocol, entry);
+            put_if(true, findings, message, at, Rule::CancelParams, level)
+        }
     }
 }
 
@@ -345,7 +367,7 @@ fn put_target(
     id: &WrittenId,
 ) -> Result<(), AllocError>
     ensures { OnOk result (findings.new.items
-        ≡ findings.old.items ++ target_findings protocol message at (said own.now) (Some id.now)) }
+        ≡ findings.old.items ++ named_findings protocol message at (said own.now) id.now) }
 {
     let is_unknown = !own.used.contains(id) && !own.used.is_full();
     let level = unknown_level(protocol, own);

@@ -23,7 +23,11 @@ fn odd_id_level(protocol: Protocol) -> Level
     ensures { result ≡ protocols.odd_id_level protocol }
 {
     match protocol {
-        Protocol::Lsp | Protocol::Mcp | Protocol::McpWithBatches => Level::Must,
+        Protocol::Lsp
+        | Protocol::Mcp
+        | Protocol::Mcp20250618
+        | Protocol::Mcp20250326
+        | Protocol::Mcp20241105 => Level::Must,
         Protocol::JsonRpc => Level::Should,
     }
 }
@@ -159,7 +163,7 @@ fn put_parts(
     ensures { OnOk result (findings.new.items
         ≡ findings.old.items ++ part_findings protocol message at entry.now) }
 {
-    put_faults(findings, message, at, entry.faults)?;
+    put_faults(protocol, findings, message, at, entry)?;
     put_both(findings, message, at, entry)?;
     put_twice(findings, message, at, entry)?;
     put_code(protocol, findings, message, at, entry)?;

@@ -1,5 +1,5 @@
 ghost use Rattle.std.specs.Prelude.{◌≡◌};
-ghost use Rattle.conversation_rules.specs.Amounts.{same_id, is_odd, is_null};
+ghost use Rattle.conversation_rules.specs.Amounts.{amount_of, same_amount, same_id, is_odd, is_null};
 
 use crate::amounts::{is_plain, same_amount};
 use conversation_reading::WrittenId;
@@ -11,9 +11,16 @@ pub fn same_id(a: &WrittenId, b: &WrittenId) -> bool
     match (a, b) {
         (WrittenId::Null, WrittenId::Null) => true,
         (WrittenId::Text(a), WrittenId::Text(b)) => a == b,
-        (WrittenId::Number(a), WrittenId::Number(b)) => same_amount(a.as_str(), b.as_str()),
+        (WrittenId::Number(a), WrittenId::Number(b)) => same_number(a.as_str(), b.as_str()),
         _ => false,
     }
+}
+
+/// Whether two numbers have one value. Most ids come back as they were written.
+fn same_number(a: &str, b: &str) -> bool
+    ensures { result ≡ same_amount (amount_of a.now) (amount_of b.now) }
+{
+    a == b || same_amount(a, b)
 }
 
 /// Whether an id is a number that isn't plain: a peer may refuse it.

@@ -1,6 +1,5 @@
-ghost use Rattle.std.specs.Prelude.{◌≡◌, ◌==◌, ◌&&◌, ◌||◌, ℕ, Some, None, true, false, not, codes, is_some, option_map, option_and_then, if◌then◌else◌};
+ghost use Rattle.std.specs.Prelude.{◌≡◌, ◌==◌, ◌&&◌, ◌||◌, ℕ, Some, None, true, false, not, is_some, option_map, option_and_then, if◌then◌else◌};
 ghost use Rattle.std.specs.Option.{option_map_or};
-ghost use Rattle.std.specs.Str.{bytes_eq};
 ghost use Rattle.conversation_reading.specs.declared.entry.WrittenId.TheVariants.{Null};
 ghost use Rattle.conversation_ids.specs.Marks.{mark_of, null_mark};
 ghost use Rattle.conversation_ids.specs.Inner.{expected_as};
@@ -15,7 +14,6 @@ use crate::ids::{is_null, is_odd, same_id};
 use crate::marks::{mark_of, null_mark};
 use conversation_reading::{Entry, Faults, First, Kind, WrittenId};
 use conversation_rules::Protocol;
-use json_values::Text;
 use std::marker::Model;
 
 /// The id that an answer is expected to have.
@@ -71,7 +69,7 @@ impl Owed {
             kind,
             faults,
             id,
-            params,
+            null_params,
             first,
             ..
         } = entry;
@@ -94,7 +92,7 @@ impl Owed {
             Kind::Answer => None,
             Kind::BrokenAnswer => Some(Owed::may_be_left(place, Expects::Nothing, id, first)),
             Kind::Invalid => {
-                let expects = invalid_expects(&faults, &params, &id);
+                let expects = invalid_expects(&faults, null_params, &id);
                 Some(Owed::may_be_left(place, expects, id, first))
             }
         }
@@ -358,12 +356,11 @@ fn is_null_id(id: &Option<WrittenId>) -> bool
 
 /// What an invalid entry is expected to be answered by: null, or where only its params are at fault, and null, what it
 /// would be without them.
-fn invalid_expects(faults: &Faults, params: &Option<Text>, id: &Option<WrittenId>) -> Expects
+fn invalid_expects(faults: &Faults, null_params: bool, id: &Option<WrittenId>) -> Expects
     ensures { expected_as result id.now ≡
-        (if only_params faults.now && option_map_or (bytes_eq (codes "null")) params.now false
-        then expected_without_params id.now else Some Null) }
+        (if only_params faults.now && null_params then expected_without_params id.now else Some Null) }
 {
-    if has_null_params(faults, params) {
+    if only_params(faults) && null_params {
         expects_without_params(id)
     } else {
         Expects::NullId
@@ -381,12 +378,6 @@ fn expects_without_params(id: &Option<WrittenId>) -> Expects
     }
 }
 
-fn has_null_params(faults: &Faults, params: &Option<Text>) -> bool
-    ensures { result ≡ (only_params faults.now && option_map_or (bytes_eq (codes "null")) params.now false) }
-{
-    only_params(faults) && is_null_text(params)
-}
-
 fn only_params(faults: &Faults) -> bool
     ensures { result ≡ only_params faults.now }
 {
@@ -399,21 +390,16 @@ fn only_params(faults: &Faults) -> bool
     faults.params && !others
 }
 
-fn is_null_text(text: &Option<Text>) -> bool
-    ensures { result ≡ option_map_or (bytes_eq (codes "null")) text.now false }
-{
-    match text {
-        Some(text) => text.as_bytes() == b"null".as_slice(),
-        None => false,
-    }
-}
-
 /// Whether a request with the id null may be left unanswered.
 fn may_leave_null(protocol: Protocol) -> bool
     ensures { result ≡ may_leave_null protocol }
 {
     match protocol {
         Protocol::JsonRpc => false,
-        Protocol::Lsp | Protocol::Mcp | Protocol::McpWithBatches => true,
+        Protocol::Lsp
+        | Protocol::Mcp
+        | Protocol::Mcp20250618
+        | Protocol::Mcp20250326
+        | Protocol::Mcp20241105 => true,
     }
 }

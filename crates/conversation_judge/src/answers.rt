@@ -211,8 +211,8 @@ fn has_batches(protocol: Protocol) -> bool
     ensures { result ≡ protocols.has_batches protocol }
 {
     match protocol {
-        Protocol::JsonRpc | Protocol::McpWithBatches => true,
-        Protocol::Lsp | Protocol::Mcp => false,
+        Protocol::JsonRpc | Protocol::Mcp20250326 => true,
+        Protocol::Lsp | Protocol::Mcp | Protocol::Mcp20250618 | Protocol::Mcp20241105 => false,
     }
 }
 

@@ -1,18 +1,20 @@
 //! A content: what it breaks, and what is kept of it.
 
-ghost use Rattle.std.specs.Prelude.{◌≡◌, ◌++◌, ℕ, OnOk, IfOk};
+ghost use Rattle.std.specs.Prelude.{◌≡◌, ◌++◌, ℕ, Some, OnOk, IfOk};
 ghost use Rattle.content_streams.specs.Streams.{capped};
 ghost use Rattle.conversation_entries.specs.Said.{said};
 ghost use Rattle.conversation_judge.specs.Said.{pair};
+ghost use Rattle.conversation_reading.specs.declared.entry.WrittenId.TheVariants.{Null};
 ghost use Rattle.conversation_rules.specs.Contents as rules;
 ghost use Rattle.conversation_rules.specs.Contents.{sight_of, not_json_rule, unreadable, single_outcome, empty_outcome, batch_findings, entries_findings, behind_entries, replies_in, reply_ids, array_outcome, behind_line_end, reading_outcome, content_outcome};
+ghost use Rattle.conversation_rules.specs.Entries.{answer_id};
 ghost use Rattle.conversation_rules.specs.Protocols as protocols;
 ghost use Rattle.lsp_frames.specs.declared.frame.Frame.{Frame as FrameValue};
 
 use crate::answers::{put_single, reply_of};
 use crate::arrays::put_answers;
 use conversation_dues::Dues;
-use conversation_entries::{Speaker, is_answer, owe, put_if, say_entry, take_entry};
+use conversation_entries::{Speaker, is_answer, may_lack_id, owe, put_if, say_entry, take_entry};
 use conversation_ids::Owed;
 use conversation_reading::{Entry, Reading, StrictReader, WrittenId};
 use conversation_rules::{Finding, Level, Message, Protocol, Reply, Rule, Side, Sight};
@@ -92,16 +94,32 @@ fn put_if_answer(
         return Ok(());
     }
     let reply = reply_of(protocol, &other.owed, 0, entry);
-    other.refused = put_single(
-        protocol,
-        sight,
-        findings,
-        message,
-        &mut other.owed,
-        reply,
-        &entry.id,
-    )?;
+    let null = Some(WrittenId::Null);
+    let id = id_sought(protocol, entry, &null);
+    let owed = &mut other.owed;
+    other.refused = put_single(protocol, sight, findings, message, owed, reply, id)?;
     Ok(())
+}
+
+/// The id by which a single answer is looked for: null, where an error may be without one.
+fn id_sought<'e>(
+    protocol: Protocol,
+    entry: &'e Entry,
+    null: &'e Option<WrittenId>,
+) -> &'e Option<WrittenId>
+    requires { null.now ≡ Some Null }
+    ensures { result.now ≡ answer_id protocol entry.now }
+{
+    match &entry.id {
+        Some(_) => &entry.id,
+        None => {
+            if may_lack_id(protocol, entry.there) {
+                null
+            } else {
+                &entry.id
+            }
+        }
+    }
 }
 
 /// `[]`.
@@ -154,9 +172,9 @@ fn batch_level(protocol: Protocol) -> Option<Level>
     ensures { result ≡ protocols.batch_level protocol }
 {
     match protocol {
-        Protocol::Lsp => Some(Level::Note),
-        Protocol::Mcp => Some(Level::Must),
-        Protocol::JsonRpc | Protocol::McpWithBatches => None,
+        Protocol::Lsp | Protocol::Mcp20241105 => Some(Level::Note),
+        Protocol::Mcp | Protocol::Mcp20250618 => Some(Level::Must),
+        Protocol::JsonRpc | Protocol::Mcp20250326 => None,
     }
 }
 

@@ -1,22 +1,10 @@
--- The members of an object, and the elements of an array.
+-- The elements of an array.
 use Rattle.std.proofs.Common.{◌≡◌, ℕ, zero, suc, ◌+◌, ◌<◌, List, [], ◌∷◌, ◌++◌, length, take, get_or, Option, Some, option_map, Bor, refl, sym, ap, subst, ◌∙◌, arith, Global}
 use Rattle.json.specs.Json.{Json}
-use Rattle.json.specs.Find.{get}
-use Rattle.json.specs.Tree.{HasNumbers, ItemsHaveNumbers}
 use Rattle.json.specs.Value.{value_view, items_view}
 use Rattle.json.specs.declared.value.Value.{Value}
-use Rattle.json.proofs.Numbered.{HasNumbers-get}
 use Rattle.conversation_reading.specs.declared.entry.Entry.{Entry}
 use Rattle.conversation_reading.specs.Strictly.{entry_of, entries_of}
-
-pub member_has_numbers : (name : List ℕ) (j : Json) (found : Option (Bor (Value Global))) → option_map (λ v. value_view v.now) found ≡ get name j → HasNumbers j →
-    (v : Bor (Value Global)) → found ≡ Some v → HasNumbers (value_view v.now)
-member_has_numbers name j found is numbers v here = HasNumbers-get name j (value_view v.now) numbers (ap (option_map (λ w. value_view w.now)) (sym here) ∙ is)
-
-pub item_has_numbers : (vs : List (Value Global)) (k : ℕ) (v : Value Global) → ItemsHaveNumbers (items_view vs) → k < length vs → v ≡ get_or vs k v → HasNumbers (value_view v)
-item_has_numbers [] k v numbers h e = absurd (let f : k < 0 = h in omega (arith, f))
-item_has_numbers (w ∷ vs) zero v numbers h e = let P : Value Global → Type 0 = λ u. HasNumbers (value_view u) in subst P (sym e) numbers.0
-item_has_numbers (w ∷ vs) (suc k) v numbers h e = item_has_numbers vs k v numbers.1 (let f : suc k < suc (length vs) = h in omega (arith, f)) e
 
 entries_of-append : (vs : List (Value Global)) (v : Value Global) → entries_of (items_view (vs ++ v ∷ [])) ≡ entries_of (items_view vs) ++ entry_of (value_view v) ∷ []
 entries_of-append [] v = refl

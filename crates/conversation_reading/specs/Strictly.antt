@@ -4,12 +4,12 @@ use Rattle.std.specs.Option.{option_map_or, is_none}
 use Rattle.std.specs.Str.{bytes_eq, is_utf8}
 use Rattle.json.specs.Json.{Json, null, number, string, array, object, Items, no_items, item}
 use Rattle.json.specs.Find.{get, as_str, as_number}
-use Rattle.json_texts.specs.Texts.{json_text, value_of}
+use Rattle.json_texts.specs.Texts.{value_of}
 use Rattle.conversation_reading.specs.Fronts.{is_json, front_of}
 use Rattle.conversation_reading.specs.Huge.{has_huge}
 use Rattle.conversation_reading.specs.Nesting.{is_deep_request}
 use Rattle.conversation_reading.specs.Numbers.{is_whole}
-use Rattle.conversation_reading.specs.Targets.{target_by, target_in}
+use Rattle.conversation_reading.specs.Targets.{has_fit_reason, target_by, target_in}
 use Rattle.conversation_reading.specs.Twice.{has_twice, first_of}
 use Rattle.conversation_reading.specs.declared.entry.Entry.{Entry}
 use Rattle.conversation_reading.specs.declared.entry.Faults.{Faults}
@@ -62,6 +62,10 @@ abbrev pub are_unfit : Option Json → Bool
 are_unfit None = false
 are_unfit (Some params) = not (is_structured params)
 
+abbrev pub is_null_value : Json → Bool
+is_null_value null = true
+is_null_value _ = false
+
 -- section 5.1: an error has a whole number as its code, and a string as its message
 abbrev pub code_in : Json → Option (List ℕ)
 code_in error = option_and_then as_number (get (codes "code") error)
@@ -93,6 +97,18 @@ faults_of j = if is_object j then (if has (codes "method") j then call_faults j 
 
 abbrev pub has_fault : Faults → Bool
 has_fault f = f.object || f.version || f.method || f.params || f.id || f.outcome || f.error
+
+-- ---- a cancel of MCP that names no request (MCP 2025-11-25, cancellation: a task has a cancel of its own)
+
+abbrev pub names_none : Option Json → Bool
+names_none None = true
+names_none (Some params) = is_object params && has_fit_reason params && is_none (get (codes "requestId") params)
+
+abbrev pub cancels_by : List ℕ → Option Json → Bool
+cancels_by method params = bytes_eq method (codes "notifications/cancelled") && names_none params
+
+abbrev pub cancels_none : Option (List ℕ) → Option Json → Bool
+cancels_none method params = option_map_or (λ method. cancels_by method params) method false
 
 -- ---- by the members that stand first
 
@@ -132,7 +148,7 @@ abbrev pub kind_in : Json → Kind
 kind_in j = kind_of (there_in j) (has_fault (faults_of j)) (has_twice j)
 
 abbrev pub entry_of : Json → Entry
-entry_of j = record { kind = kind_in j; there = there_in j; faults = faults_of j; id = id_in j; method = method_in j; params = option_map json_text (get (codes "params") j); code = option_and_then code_in (get (codes "error") j); target = target_in j; first = first_in j; has_huge = has_huge j || (has_twice j || is_deep_request (kind_in j) j) }
+entry_of j = record { kind = kind_in j; there = there_in j; faults = faults_of j; id = id_in j; method = method_in j; null_params = option_map_or is_null_value (get (codes "params") j) false; code = option_and_then code_in (get (codes "error") j); target = target_in j; cancels_none = cancels_none (method_in j) (get (codes "params") j); first = first_in j; has_huge = has_huge j || (has_twice j || is_deep_request (kind_in j) j) }
 
 abbrev pub entries_of : Items → List Entry
 entries_of no_items = []

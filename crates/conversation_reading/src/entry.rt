@@ -61,14 +61,17 @@ pub struct Entry {
     pub id: Option<WrittenId>,
     /// The method that it has, where it is a string.
     pub method: Option<Text>,
-    /// The compact text of the params that it has, whatever these are.
-    pub params: Option<Text>,
+    /// Whether it has params, and they are null.
+    pub null_params: bool,
     /// The code of its error, where that is a number, with each digit that it has.
     pub code: Option<Text>,
     /// The id that it cancels by its method, whatever kind it is: of `$/cancelRequest` (LSP) the `id` of its params, and of
     /// `notifications/cancelled` (MCP) their `requestId`, where a `reason` is a string or isn't there. It is a string or a
     /// whole number; there is none where its params aren't a cancel's.
     pub target: Option<WrittenId>,
+    /// Whether it is MCP's cancel and names no request: its params are an object without a `requestId`, in which a `reason`
+    /// is a string or isn't there, or there are none.
+    pub cancels_none: bool,
     /// Where a member of it stands twice, what the first ones say.
     pub first: Option<First>,
     /// Whether a reader may refuse it all: a number in it is beyond a float's range, as 1e400, a member of it stands twice,

@@ -1,17 +1,15 @@
 //! From values to entries.
 
 ghost use Rattle.std.specs.Prelude.{◌≡◌, ◌||◌, IfOk, Some, codes, false, is_some, option_map, option_and_then};
-ghost use Rattle.std.specs.Option.{ForSome, option_map_or};
+ghost use Rattle.std.specs.Option.{option_map_or};
 ghost use Rattle.json.specs.Find.{get, as_str};
 ghost use Rattle.std.specs.Str.{bytes_eq};
-ghost use Rattle.json.specs.Tree.{HasNumbers, ItemsHaveNumbers};
 ghost use Rattle.json.specs.Value.{value_view, items_view};
-ghost use Rattle.json_texts.specs.Texts.{json_text};
 ghost use Rattle.conversation_reading.specs.Huge.{has_huge};
 ghost use Rattle.conversation_reading.specs.Nesting.{is_deep_request};
 ghost use Rattle.conversation_reading.specs.Inner.{AreMembers};
 ghost use Rattle.conversation_reading.specs.Numbers.{is_whole};
-ghost use Rattle.conversation_reading.specs.Strictly.{there_in, is_object, written_id, are_unfit, code_in, is_error, is_unfit_error, call_faults, answer_faults, faults_of, has_fault, first_by, kind_of, entry_of, entries_of};
+ghost use Rattle.conversation_reading.specs.Strictly.{there_in, is_object, written_id, are_unfit, code_in, is_error, is_unfit_error, call_faults, answer_faults, faults_of, has_fault, is_null_value, first_by, kind_of, entry_of, entries_of};
 
 use crate::entry::{Entry, Faults, Kind, There, WrittenId};
 use crate::first::First;
@@ -19,15 +17,13 @@ use crate::huge::has_huge;
 use crate::lookup::{Members, first_of, members_of};
 use crate::nesting::is_deep_request;
 use crate::number::is_whole;
-use crate::target::read_target;
+use crate::target::{cancels_none, read_target};
 use json::Value;
-use json_texts::text_of;
 use json_values::Text;
 use std::alloc::{AllocError, Global};
 
 /// What the elements of an array are, in their order.
 pub(crate) fn read_entries(alloc: Global, values: &[Value<'_>]) -> Result<Vec<Entry>, AllocError>
-    requires { ItemsHaveNumbers (items_view values.now) }
     ensures { IfOk result (λ entries. entries.items ≡ entries_of (items_view values.now)) }
 {
     let mut entries = Vec::with_capacity(alloc, values.len())?;
@@ -39,7 +35,6 @@ pub(crate) fn read_entries(alloc: Global, values: &[Value<'_>]) -> Result<Vec<En
 
 /// What one value is.
 pub(crate) fn read_entry(alloc: Global, value: &Value<'_>) -> Result<Entry, AllocError>
-    requires { HasNumbers (value_view value.now) }
     ensures { IfOk result (λ entry. entry ≡ entry_of (value_view value.now)) }
 {
     let members = members_of(value);
@@ -52,9 +47,10 @@ pub(crate) fn read_entry(alloc: Global, value: &Value<'_>) -> Result<Entry, Allo
         faults,
         id: read_id(alloc, members.id)?,
         method: copied(alloc, text_in(members.method))?,
-        params: read_params(alloc, members.params)?,
+        null_params: is_null(members.params),
         code: copied(alloc, code_among(members.error))?,
         target: read_target(alloc, members.method, members.params)?,
+        cancels_none: cancels_none(members.method, members.params),
         first: read_first(alloc, value, members.is_twice)?,
         has_huge: may_be_refused(value, members.is_twice, kind),
     })
@@ -93,7 +89,7 @@ fn there_among(value: &Value<'_>, members: &Members<'_, '_>) -> There
     }
 }
 
-fn is_object(value: &Value<'_>) -> bool
+pub(crate) fn is_object(value: &Value<'_>) -> bool
     ensures { result ≡ is_object (value_view value.now) }
 {
     match value {
@@ -293,13 +289,12 @@ fn copied(alloc: Global, text: Option<&str>) -> Result<Option<Text>, AllocError>
     }
 }
 
-fn read_params(alloc: Global, member: Option<&Value<'_>>) -> Result<Option<Text>, AllocError>
-    requires { ForSome member (λ v. HasNumbers (value_view v.now)) }
-    ensures { IfOk result
-        (λ text. text ≡ option_map json_text (option_map (λ v. value_view v.now) member.entry)) }
+/// Whether a member is there, and is null.
+fn is_null(member: Option<&Value<'_>>) -> bool
+    ensures { result ≡ option_map_or is_null_value (option_map (λ v. value_view v.now) member.entry) false }
 {
     match member {
-        Some(value) => Ok(Some(text_of(alloc, value)?)),
-        None => Ok(None),
+        Some(Value::Null) => true,
+        _ => false,
     }
 }

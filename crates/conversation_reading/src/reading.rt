@@ -1,7 +1,6 @@
 //! From contents to readings.
 
 ghost use Rattle.std.specs.Prelude.{◌≡◌, IfOk, option_map};
-ghost use Rattle.json.specs.Tree.{HasNumbers};
 ghost use Rattle.json.specs.Value.{value_view};
 ghost use Rattle.json_texts.specs.Texts.{value_of};
 ghost use Rattle.conversation_reading.specs.Fronts.{is_json};
@@ -147,7 +146,6 @@ fn is_json(alloc: Global, text: &[u8], scratch: &mut Scratch) -> Result<bool, Al
 }
 
 fn read_value(alloc: Global, value: &Value<'_>) -> Result<Reading, AllocError>
-    requires { HasNumbers (value_view value.now) }
     ensures { IfOk result (λ reading. reading ≡ value_reading (value_view value.now)) }
 {
     match value {

@@ -1,13 +1,14 @@
 //! The id that a cancel names.
 
-ghost use Rattle.std.specs.Prelude.{◌≡◌, IfOk, codes, option_map, option_and_then};
+ghost use Rattle.std.specs.Prelude.{◌≡◌, IfOk, option_map, option_and_then};
 ghost use Rattle.json.specs.Find.{as_str};
 ghost use Rattle.json.specs.Value.{value_view};
+ghost use Rattle.conversation_reading.specs.Strictly.{cancels_by, cancels_none, names_none};
 ghost use Rattle.conversation_reading.specs.Targets.{target_as, target_named, has_fit_reason, target_by};
 
 use crate::entry::WrittenId;
 use crate::number::is_whole;
-use crate::read::text_in;
+use crate::read::{is_object, text_in};
 use json::Value;
 use json_values::Text;
 use std::alloc::{AllocError, Global};
@@ -40,6 +41,34 @@ fn target_by(
         target_named(alloc, "requestId", params)
     } else {
         Ok(None)
+    }
+}
+
+/// Whether an entry is MCP's cancel and names no request.
+pub(crate) fn cancels_none(method: Option<&Value<'_>>, params: Option<&Value<'_>>) -> bool
+    ensures { result ≡ cancels_none (option_and_then as_str (option_map (λ v. value_view v.now) method.entry))
+        (option_map (λ v. value_view v.now) params.entry) }
+{
+    match text_in(method) {
+        Some(method) => cancels_by(method, params),
+        None => false,
+    }
+}
+
+fn cancels_by(method: &str, params: Option<&Value<'_>>) -> bool
+    ensures { result ≡ cancels_by method.now (option_map (λ v. value_view v.now) params.entry) }
+{
+    method == "notifications/cancelled" && names_none(params)
+}
+
+fn names_none(params: Option<&Value<'_>>) -> bool
+    ensures { result ≡ names_none (option_map (λ v. value_view v.now) params.entry) }
+{
+    match params {
+        Some(params) => {
+            is_object(params) && has_fit_reason(params) && params.get("requestId").is_none()
+        }
+        None => true,
     }
 }
 

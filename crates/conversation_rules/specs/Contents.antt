@@ -13,7 +13,7 @@ use Rattle.conversation_rules.specs.declared.reply.Reply.{Reply}
 use Rattle.conversation_rules.specs.declared.reply.Sight.{Sight}
 use Rattle.conversation_rules.specs.Answers.{reply_of, single_findings, refused_behind_single, behind_single, answers_findings, behind_answers}
 use Rattle.conversation_rules.specs.Dues.{closed, owed_more}
-use Rattle.conversation_rules.specs.Entries.{is_answer, entry_findings, behind_entry}
+use Rattle.conversation_rules.specs.Entries.{is_answer, answer_id, entry_findings, behind_entry}
 use Rattle.conversation_rules.specs.Owed.{Due, new_due, unreadable_due, empty_array_owed}
 use Rattle.conversation_rules.specs.Protocols.{batch_level}
 use Rattle.conversation_rules.specs.Speakers.{Speaker, Pair, found, found_if}
@@ -65,12 +65,12 @@ single_own protocol message entry own = shut (behind_entry protocol 0 entry (ope
 
 abbrev pub single_other : Protocol → Sight → Entry → Speaker → Speaker
 single_other protocol sight entry other = record other {
-  owed = if is_answer entry.kind then behind_single protocol (reply_of protocol other.owed 0 entry) entry.id other.owed else other.owed;
-  refused = if is_answer entry.kind then refused_behind_single protocol sight.refused (reply_of protocol other.owed 0 entry) entry.id other.owed else other.refused;
+  owed = if is_answer entry.kind then behind_single protocol (reply_of protocol other.owed 0 entry) (answer_id protocol entry) other.owed else other.owed;
+  refused = if is_answer entry.kind then refused_behind_single protocol sight.refused (reply_of protocol other.owed 0 entry) (answer_id protocol entry) other.owed else other.refused;
 }
 
 abbrev pub single_answer_findings : Protocol → Sight → Message → Entry → Speaker → List Finding
-single_answer_findings protocol sight message entry other = if is_answer entry.kind then single_findings protocol sight message (reply_of protocol other.owed 0 entry) entry.id other.owed else []
+single_answer_findings protocol sight message entry other = if is_answer entry.kind then single_findings protocol sight message (reply_of protocol other.owed 0 entry) (answer_id protocol entry) other.owed else []
 
 abbrev pub single_outcome : Protocol → Message → Entry → Pair → Outcome
 single_outcome protocol message entry pair = record {

@@ -16,7 +16,7 @@ use Rattle.conversation_reading.specs.declared.whole.Whole.{Whole}
 use Rattle.conversation_rules.specs.Amounts.{is_plain, is_null}
 use Rattle.conversation_rules.specs.Dues.{owed_more, is_asked, cancelled_in}
 use Rattle.conversation_rules.specs.Owed.{Due, has_twice, owed_on}
-use Rattle.conversation_rules.specs.Protocols.{cancel_method, is_lsp, is_mcp, odd_id_level}
+use Rattle.conversation_rules.specs.Protocols.{cancel_method, is_lsp, is_mcp, may_leave_ids_out, odd_id_level}
 use Rattle.conversation_rules.specs.Speakers.{Speaker, found, found_if}
 use Rattle.conversation_rules.specs.Used.{is_used, use_id, fills}
 use Rattle.conversation_rules.specs.declared.finding.Finding.{Finding}
@@ -61,11 +61,23 @@ has_method method entry = option_map_or (bytes_eq method) entry.method false
 
 -- ---- object, version, method, params, id, outcome, error: each rule by which it is no message
 
-abbrev pub fault_findings : Message → ℕ → Faults → List Finding
-fault_findings message at faults =
+-- an error has no id where that of its request couldn't be read (MCP 2025-11-25, messages)
+abbrev pub may_lack_id : Protocol → There → Bool
+may_lack_id protocol there = may_leave_ids_out protocol && (there.error && not (there.id || there.result))
+
+-- the id by which a single answer is looked for: such an error's is null
+abbrev pub id_by : Option WrittenId → Bool → Option WrittenId
+id_by (Some id) lacks = Some id
+id_by None lacks = if lacks then Some Null else None
+
+abbrev pub answer_id : Protocol → Entry → Option WrittenId
+answer_id protocol entry = id_by entry.id (may_lack_id protocol entry.there)
+
+abbrev pub fault_findings : Protocol → Message → ℕ → There → Faults → List Finding
+fault_findings protocol message at there faults =
     found_if faults.object (found message at rules.Object Must) ++ found_if faults.version (found message at rules.Version Must)
     ++ found_if faults.method (found message at rules.Method Must) ++ found_if faults.params (found message at rules.Params Must)
-    ++ found_if faults.id (found message at rules.Id Must) ++ found_if faults.outcome (found message at rules.Outcome Must)
+    ++ found_if (faults.id && not (may_lack_id protocol there)) (found message at rules.Id Must) ++ found_if faults.outcome (found message at rules.Outcome Must)
     ++ found_if faults.error (found message at rules.Error Must)
 
 -- ---- both-kinds: a request has a method, and an answer a result or an error (JSON-RPC 2.0, sections 4 and 5). With an id it
@@ -121,15 +133,22 @@ is_cancel protocol entry = is_notification entry.kind && option_map_or (λ metho
 abbrev pub unknown_level : Protocol → Speaker → Level
 unknown_level protocol own = if is_mcp protocol && not own.has_unreadable then Must else Note
 
--- the id that it names, if its params are a cancel's
-abbrev pub target_findings : Protocol → Message → ℕ → Speaker → Option WrittenId → List Finding
-target_findings protocol message at own None = found message at rules.CancelParams Must ∷ []
-target_findings protocol message at own (Some id) =
+-- one that names no request where it may leave that out (MCP 2025-11-25, cancellation)
+abbrev pub cancel_params_level : Protocol → Entry → Level
+cancel_params_level protocol entry = if may_leave_ids_out protocol && entry.cancels_none then Note else Must
+
+abbrev pub named_findings : Protocol → Message → ℕ → Speaker → WrittenId → List Finding
+named_findings protocol message at own id =
     found_if (not (is_used id own.used) && not own.used.is_full) (found message at rules.CancelUnknown (unknown_level protocol own))
     ++ found_if (is_mcp protocol && is_used id own.initialize) (found message at rules.CancelInitialize Must)
 
+-- the id that it names, if its params are a cancel's
+abbrev pub target_findings : Protocol → Message → ℕ → Speaker → Level → Option WrittenId → List Finding
+target_findings protocol message at own level None = found message at rules.CancelParams level ∷ []
+target_findings protocol message at own level (Some id) = named_findings protocol message at own id
+
 abbrev pub cancel_findings : Protocol → Message → ℕ → Speaker → Entry → List Finding
-cancel_findings protocol message at own entry = if is_cancel protocol entry then target_findings protocol message at own entry.target else []
+cancel_findings protocol message at own entry = if is_cancel protocol entry then target_findings protocol message at own (cancel_params_level protocol entry) entry.target else []
 
 -- it reaches each open request with this id that stands before it, in the same batch too
 abbrev pub cancelled_by : Protocol → Option WrittenId → List Due → List Due
@@ -200,7 +219,7 @@ with_id_of protocol entry own = record own {
 -- ---- all of an entry
 
 abbrev pub part_findings : Protocol → Message → ℕ → Entry → List Finding
-part_findings protocol message at entry = fault_findings message at entry.faults ++ both_findings message at entry ++ twice_findings message at entry ++ code_findings protocol message at entry ++ name_findings message at entry
+part_findings protocol message at entry = fault_findings protocol message at entry.there entry.faults ++ both_findings message at entry ++ twice_findings message at entry ++ code_findings protocol message at entry ++ name_findings message at entry
 
 abbrev pub plain_findings : Protocol → Message → Bool → ℕ → Entry → Speaker → List Finding
 plain_findings protocol message in_batch at entry own = part_findings protocol message at entry ++ cancel_findings protocol message at own entry ++ id_findings protocol message at in_batch own entry

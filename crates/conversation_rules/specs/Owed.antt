@@ -1,7 +1,6 @@
 -- What a side owes on what the other one wrote (JSON-RPC 2.0, sections 4 to 6).
-use Rattle.std.specs.Prelude.{ℕ, suc, ◌&&◌, ◌||◌, not, List, [], ◌∷◌, Bool, true, false, Option, Some, None, option_and_then, is_some, if◌then◌else◌, codes}
+use Rattle.std.specs.Prelude.{ℕ, suc, ◌&&◌, ◌||◌, not, List, [], ◌∷◌, Bool, true, false, Option, Some, None, option_and_then, is_some, if◌then◌else◌}
 use Rattle.std.specs.Option.{option_map_or, option_to_list}
-use Rattle.std.specs.Str.{bytes_eq}
 use Rattle.conversation_reading.specs.declared.entry.Entry.{Entry}
 use Rattle.conversation_reading.specs.declared.entry.Faults.{Faults}
 use Rattle.conversation_reading.specs.declared.entry.Kind.{Kind}
@@ -66,7 +65,7 @@ only_params f = f.params && not (f.object || f.version || f.method || f.id || f.
 
 -- a call whose only fault is that its params are null
 abbrev pub has_null_params : Entry → Bool
-has_null_params entry = only_params entry.faults && option_map_or (bytes_eq (codes "null")) entry.params false
+has_null_params entry = only_params entry.faults && entry.null_params
 
 -- it is expected to be answered as it would be without them
 abbrev pub expected_without_params : Option WrittenId → Option WrittenId

@@ -138,8 +138,11 @@ call name digits = message ((codes "method", string name) ∷ id digits ∷ [])
 abbrev pub lsp_cancel : Json → Json
 lsp_cancel target = message ((codes "method", string (codes "$/cancelRequest")) ∷ (codes "params", object (members_of ((codes "id", target) ∷ []))) ∷ [])
 
+abbrev pub mcp_cancel_with : List (List ℕ × Json) → Json
+mcp_cancel_with params = message ((codes "method", string (codes "notifications/cancelled")) ∷ (codes "params", object (members_of params)) ∷ [])
+
 abbrev pub mcp_cancel : Json → Json
-mcp_cancel target = message ((codes "method", string (codes "notifications/cancelled")) ∷ (codes "params", object (members_of ((codes "requestId", target) ∷ []))) ∷ [])
+mcp_cancel target = mcp_cancel_with ((codes "requestId", target) ∷ [])
 
 abbrev pub items_of : List Json → Items
 items_of [] = no_items

@@ -23,6 +23,6 @@ pub use reply::{Reply, Sight, Stray};
 pub use side::Side;
 pub use worked::{
     answers_in_arrays, answers_that_are_owed, answers_that_may_come, cancels,
-    contents_that_are_refused, ends_of_sides, good_json, ids_of_requests, members_that_stand_twice,
-    names_and_codes, requests_that_are_answers,
+    contents_that_are_refused, ends_of_sides, good_json, ids_of_requests, ids_that_are_left_out,
+    members_that_stand_twice, names_and_codes, requests_that_are_answers,
 };

@@ -5,8 +5,12 @@ pub enum Protocol {
     JsonRpc,
     /// LSP 3.17.
     Lsp,
-    /// MCP of 2025-06-18.
+    /// MCP of 2025-11-25.
     Mcp,
+    /// MCP of 2025-06-18.
+    Mcp20250618,
     /// MCP of 2025-03-26, which has batches.
-    McpWithBatches,
+    Mcp20250326,
+    /// MCP of 2024-11-05.
+    Mcp20241105,
 }

@@ -1,13 +1,13 @@
 //! Worked conversations: what is found in them. Each law is the contract of a function that does nothing.
 
 ghost use Rattle.std.specs.Prelude.{◌≡◌, ◌∷◌, [], codes};
-ghost use Rattle.json.specs.Json.{null, number, string};
-ghost use Rattle.conversation_reading.specs.Rows.{id, message, method, outcome};
-ghost use Rattle.conversation_rules.specs.Rows.{request, old_request, no_method, null_request, null_call, request_without_params, text_request, deep_request, two_ids, answer, null_answer, error_answer, notification, call, lsp_cancel, mcp_cancel, array_of, says, babbles, ends, told, tells};
+ghost use Rattle.json.specs.Json.{null, number, string, array, no_items};
+ghost use Rattle.conversation_reading.specs.Rows.{id, message, method, outcome, failure};
+ghost use Rattle.conversation_rules.specs.Rows.{request, old_request, no_method, null_request, null_call, request_without_params, text_request, deep_request, two_ids, answer, null_answer, error_answer, notification, call, lsp_cancel, mcp_cancel, mcp_cancel_with, array_of, says, babbles, ends, told, tells};
 ghost use Rattle.content_streams.specs.declared.ending.HowEnded.TheVariants.{Closed, ReadFailed};
 ghost use Rattle.conversation_rules.specs.declared.finding.Rule.TheVariants as rules;
 ghost use Rattle.conversation_rules.specs.declared.level.Level.TheVariants.{Must, Should, Note};
-ghost use Rattle.conversation_rules.specs.declared.protocol.Protocol.TheVariants.{JsonRpc, Lsp, Mcp, McpWithBatches};
+ghost use Rattle.conversation_rules.specs.declared.protocol.Protocol.TheVariants.{JsonRpc, Lsp, Mcp, Mcp20250618, Mcp20250326, Mcp20241105};
 ghost use Rattle.conversation_rules.specs.declared.side.Side.TheVariants.{Client, Server};
 
 /// Each request is answered once (JSON-RPC 2.0, section 5).
@@ -126,7 +126,11 @@ pub fn answers_in_arrays()
         ≡ tells Server rules.NotAsArray Should 1 0 ∷ [] }
     ensures no_batches { told Mcp (says Client (array_of (request (codes "7") ∷ [])) ∷ [])
         ≡ tells Client rules.Batch Must 1 0 ∷ [] }
-    ensures batches { told McpWithBatches (says Client (array_of (request (codes "7") ∷ [])) ∷ []) ≡ [] }
+    ensures batches { told Mcp20250326 (says Client (array_of (request (codes "7") ∷ [])) ∷ []) ≡ [] }
+    ensures batches_before { told Mcp20241105 (says Client (array_of (request (codes "7") ∷ [])) ∷ [])
+        ≡ tells Client rules.Batch Note 1 0 ∷ [] }
+    ensures no_batches_before { told Mcp20250618 (says Client (array_of (request (codes "7") ∷ [])) ∷ [])
+        ≡ tells Client rules.Batch Must 1 0 ∷ [] }
     ensures lsp_batches { told Lsp (says Client (array_of (request (codes "7") ∷ [])) ∷ [])
         ≡ tells Client rules.Batch Note 1 0 ∷ [] }
     ensures refused { told Mcp (says Client (array_of (request (codes "7") ∷ request (codes "8") ∷ []))
@@ -224,6 +228,29 @@ pub fn cancels()
     ensures after_cancel { told Mcp (says Client (request (codes "7")) ∷ says Client (mcp_cancel (number (codes "7"))) ∷ says Server (answer (codes "7")) ∷ [])
         ≡ tells Server rules.AfterCancel Note 1 0 ∷ [] }
     ensures none_in_jsonrpc { told JsonRpc (says Client (lsp_cancel null) ∷ []) ≡ [] }
+{}
+
+/// Errors without an id, and cancels without that of a request (MCP 2025-11-25, messages and cancellation).
+pub fn ids_that_are_left_out()
+    ensures error { told Mcp (says Server (message (failure (codes "-32700") ∷ [])) ∷ []) ≡ [] }
+    ensures error_before { told Mcp20250618 (says Server (message (failure (codes "-32700") ∷ [])) ∷ []) ≡ tells Server rules.Id Must 1 0 ∷ [] }
+    ensures error_for_a_batch { told Mcp (says Client (array_of (request (codes "7") ∷ [])) ∷ says Server (message (failure (codes "-32600") ∷ []))
+        ∷ ends Server Closed ∷ []) ≡ tells Client rules.Batch Must 1 0 ∷ [] }
+    ensures error_for_a_batch_before { told Mcp20250618 (says Client (array_of (request (codes "7") ∷ [])) ∷ says Server (message (failure (codes "-32600") ∷ []))
+        ∷ ends Server Closed ∷ []) ≡ tells Client rules.Batch Must 1 0 ∷ tells Server rules.Id Must 1 0 ∷ tells Server rules.Unanswered Must 1 1 ∷ [] }
+    ensures bad_error { told Mcp (says Server (message (failure (codes "1.5") ∷ [])) ∷ []) ≡ tells Server rules.Error Must 1 0 ∷ [] }
+    ensures bad_id { told Mcp (says Server (message ((codes "id", array no_items) ∷ failure (codes "-32700") ∷ [])) ∷ [])
+        ≡ tells Server rules.Id Must 1 0 ∷ [] }
+    ensures result { told Mcp (says Server (message (outcome ∷ [])) ∷ []) ≡ tells Server rules.Id Must 1 0 ∷ [] }
+    ensures both { told Mcp (says Server (message (outcome ∷ failure (codes "-32700") ∷ [])) ∷ [])
+        ≡ tells Server rules.Id Must 1 0 ∷ tells Server rules.Outcome Must 1 0 ∷ [] }
+    ensures cancel { told Mcp (says Client (mcp_cancel_with []) ∷ []) ≡ tells Client rules.CancelParams Note 1 0 ∷ [] }
+    ensures cancel_without_params { told Mcp (says Client (notification (codes "notifications/cancelled")) ∷ [])
+        ≡ tells Client rules.CancelParams Note 1 0 ∷ [] }
+    ensures cancel_before { told Mcp20250618 (says Client (mcp_cancel_with []) ∷ []) ≡ tells Client rules.CancelParams Must 1 0 ∷ [] }
+    ensures cancel_of_null { told Mcp (says Client (mcp_cancel null) ∷ []) ≡ tells Client rules.CancelParams Must 1 0 ∷ [] }
+    ensures bad_reason { told Mcp (says Client (mcp_cancel_with ((codes "reason", null) ∷ [])) ∷ [])
+        ≡ tells Client rules.CancelParams Must 1 0 ∷ [] }
 {}
 
 /// Ends (JSON-RPC 2.0, section 5; LSP 3.17, exit; MCP, lifecycle).

@@ -3,13 +3,15 @@ use Rattle.std.specs.Prelude.{ℕ, ◌==◌, ◌&&◌, nat_le, Option, Some, Non
 use Rattle.content_streams.specs.declared.framing.Framing.{Framing}
 use Rattle.content_streams.specs.declared.framing.Framing.TheVariants.{Frames, Lines, Contents}
 use Rattle.conversation_rules.specs.declared.protocol.Protocol.{Protocol}
-use Rattle.conversation_rules.specs.declared.protocol.Protocol.TheVariants.{JsonRpc, Lsp, Mcp, McpWithBatches}
+use Rattle.conversation_rules.specs.declared.protocol.Protocol.TheVariants.{JsonRpc, Lsp, Mcp, Mcp20250618, Mcp20250326, Mcp20241105}
 use Rattle.lsp_frames.specs.declared.limits.TheConstants.{LARGEST_CONTENT}
 use Rattle.judge_calls.specs.declared.options.Asked.{Asked}
 use Rattle.judge_calls.specs.declared.options.JudgeOptions.{JudgeOptions}
 
 abbrev pub protocol_of : ℕ → Option Protocol
-protocol_of n = if n == 0 then Some JsonRpc else (if n == 1 then Some Lsp else (if n == 2 then Some Mcp else (if n == 3 then Some McpWithBatches else None)))
+protocol_of n =
+    if n == 0 then Some JsonRpc else (if n == 1 then Some Lsp else (if n == 2 then Some Mcp else
+    (if n == 3 then Some Mcp20250618 else (if n == 4 then Some Mcp20250326 else (if n == 5 then Some Mcp20241105 else None)))))
 
 abbrev pub framing_of : ℕ → Option Framing
 framing_of n = if n == 0 then Some Frames else (if n == 1 then Some Lines else (if n == 2 then Some Contents else None))

@@ -69,7 +69,9 @@ fn protocol_of(rules: u32) -> Option<Protocol>
         0 => Some(Protocol::JsonRpc),
         1 => Some(Protocol::Lsp),
         2 => Some(Protocol::Mcp),
-        3 => Some(Protocol::McpWithBatches),
+        3 => Some(Protocol::Mcp20250618),
+        4 => Some(Protocol::Mcp20250326),
+        5 => Some(Protocol::Mcp20241105),
         _ => None,
     }
 }

@@ -17,7 +17,7 @@ use Rattle.conversation_reading.specs.declared.reading.Reading.TheVariants.{Fore
 use Rattle.conversation_rules.specs.Answers.{reply_of, behind_single}
 use Rattle.conversation_rules.specs.Contents.{content_outcome, reading_outcome, next_message, counted, sight_of, opened, shut, have_huge, are_answers, replies_in, reply_ids, behind_entries}
 use Rattle.conversation_rules.specs.Dues.{is_asked, owed_more}
-use Rattle.conversation_rules.specs.Entries.{is_request, is_answer, id_findings, again_findings, is_cancel, cancelled_by, owed_after_last, is_first_cancel, owed_after_first, owed_after_cancel, id_used, behind_entry}
+use Rattle.conversation_rules.specs.Entries.{is_request, is_answer, answer_id, id_findings, again_findings, is_cancel, cancelled_by, owed_after_last, is_first_cancel, owed_after_first, owed_after_cancel, id_used, behind_entry}
 use Rattle.conversation_rules.specs.Judging.{Seen, stream_of, pair_of, new_state, state_of, findings_of}
 use Rattle.conversation_rules.specs.Amounts.{is_odd, is_null}
 use Rattle.conversation_rules.specs.Owed.{Due, first_id, expected_without_params, request_owed, may_be_left, invalid_owed, owed_as}
@@ -229,7 +229,7 @@ module _ (side : Side) (those : Rule → Bool) (fair : IsFair those) (not_owed :
     our_reading is_unfinished b e pair (Single entry) said up below = (
       faultless P message entry said.faultless said.one_kind said.once,
       ids_below P protocol message 0 false (opened message false entry.has_huge pair.own) b e entry said up (opened_below b message false entry.has_huge pair.own below),
-      none_each P (is_answer entry.kind) _ (single_each P message our_answering protocol (sight_of pair) (reply_of protocol pair.other.owed 0 entry) entry.id pair.other.owed),
+      none_each P (is_answer entry.kind) _ (single_each P message our_answering protocol (sight_of pair) (reply_of protocol pair.other.owed 0 entry) (answer_id protocol entry) pair.other.owed),
     )
     our_reading is_unfinished b e pair (Array []) well up below = absurd well
     our_reading is_unfinished b e pair (Array (entry ∷ entries)) said up below = (
@@ -261,8 +261,8 @@ module _ (side : Side) (those : Rule → Bool) (fair : IsFair those) (not_owed :
   their_below is_unfinished b message pair HalfPair is = record { runs = is.runs; owed = is.owed }
   their_below is_unfinished b message pair (Single entry) is = record { runs = is.runs; owed = from (is_answer entry.kind) }
     where
-      from : (c : Bool) → OwedBelow b (if c then behind_single protocol (reply_of protocol pair.other.owed 0 entry) entry.id pair.other.owed else pair.other.owed)
-      from true = single_below b protocol (reply_of protocol pair.other.owed 0 entry) entry.id pair.other.owed is.owed
+      from : (c : Bool) → OwedBelow b (if c then behind_single protocol (reply_of protocol pair.other.owed 0 entry) (answer_id protocol entry) pair.other.owed else pair.other.owed)
+      from true = single_below b protocol (reply_of protocol pair.other.owed 0 entry) (answer_id protocol entry) pair.other.owed is.owed
       from false = is.owed
   their_below is_unfinished b message pair (Array []) is = is
   their_below is_unfinished b message pair (Array (entry ∷ entries)) is = record {

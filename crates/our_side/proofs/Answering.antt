@@ -16,7 +16,7 @@ use Rattle.conversation_rules.specs.Answers.{has_code, may_refuse, target_of, ta
 use Rattle.conversation_rules.specs.Contents.{reading_outcome, sight_of, opened, have_huge, are_answers, replies_in, reply_ids, single_other, single_answer_findings, behind_entries}
 use Rattle.conversation_rules.specs.Dues as dues
 use Rattle.conversation_rules.specs.Dues.{closed, owed_more, settled, settled_entry, settled_batch, cancelled_in, ids_read, array_target, array_fits, found_batch}
-use Rattle.conversation_rules.specs.Entries.{is_answer, is_cancel, cancelled_by, owed_after_last, is_first_cancel, owed_after_first, owed_after_cancel, behind_entry, id_findings}
+use Rattle.conversation_rules.specs.Entries.{is_answer, may_lack_id, id_by, answer_id, is_cancel, cancelled_by, owed_after_last, is_first_cancel, owed_after_first, owed_after_cancel, behind_entry, id_findings}
 use Rattle.conversation_rules.specs.Matching.{same_ids, expected_ids, expects_null, is_null_request, is_null_other, is_unnamed, is_just, can_be_answered, batch_target, named_target, named_in, null_target, null_in, parse_error_target, refused_batch, or_else, oldest, is_request_for}
 use Rattle.conversation_rules.specs.Owed.{Owed, Due, has_twice, first_id, request_owed, may_be_left, new_due, unreadable_due, has_id, has_null_params, is_expected, may_have, expected_without_params, owed_as, owed_on, empty_array_owed}
 use Rattle.conversation_rules.specs.Protocols.{is_mcp, may_leave_null}
@@ -641,13 +641,17 @@ module _ (side : Side) where
         answered protocol (sight_of pair) message (reply_of protocol pair.other.owed 0 entry) pair.other.owed name.0 name.1 orderly
         (λ q can some. expects q can (subst (λ n. 1 ≤ n) (sym (λ i. if answer i then answered_under q (says_unread entry) (name.2 i) else 0)) some))
 
+    -- it is looked for by the id that it has
+    by_name : (entry : Entry) (name : HasPlain entry) → answer_id protocol entry ≡ Some name.0
+    by_name entry name = ap (λ o. id_by o (may_lack_id protocol entry.there)) name.2
+
     said_each : (pair : Pair) (entry : Entry) → AreOrderly pair.other.owed → Says (Single entry) → Expects pair.other.owed (Single entry) → Each P (single_answer_findings protocol (sight_of pair) message entry pair.other)
     said_each pair entry orderly says expects = from (is_answer entry.kind) refl
       where
-        from : (b : Bool) → is_answer entry.kind ≡ b → Each P (if b then single_findings protocol (sight_of pair) message (reply_of protocol pair.other.owed 0 entry) entry.id pair.other.owed else [])
+        from : (b : Bool) → is_answer entry.kind ≡ b → Each P (if b then single_findings protocol (sight_of pair) message (reply_of protocol pair.other.owed 0 entry) (answer_id protocol entry) pair.other.owed else [])
         from true answer =
             let name = says answer in
-            subst (λ o. Each P (single_findings protocol (sight_of pair) message (reply_of protocol pair.other.owed 0 entry) o pair.other.owed)) (sym name.2)
+            subst (λ o. Each P (single_findings protocol (sight_of pair) message (reply_of protocol pair.other.owed 0 entry) o pair.other.owed)) (sym (by_name entry name))
             (silent_of side (single_findings protocol (sight_of pair) message (reply_of protocol pair.other.owed 0 entry) (Some name.0) pair.other.owed)
             (one_answered pair entry orderly answer name expects).none)
         from false answer = tt
@@ -655,12 +659,12 @@ module _ (side : Side) where
     said_behind : (pair : Pair) (entry : Entry) → AreOrderly pair.other.owed → Says (Single entry) → Expects pair.other.owed (Single entry) → Behind pair.other.owed (single_other protocol (sight_of pair) entry pair.other).owed (Single entry)
     said_behind pair entry orderly says expects = from (is_answer entry.kind) refl
       where
-        from : (b : Bool) → is_answer entry.kind ≡ b → Behind pair.other.owed (if b then behind_single protocol (reply_of protocol pair.other.owed 0 entry) entry.id pair.other.owed else pair.other.owed) (Single entry)
+        from : (b : Bool) → is_answer entry.kind ≡ b → Behind pair.other.owed (if b then behind_single protocol (reply_of protocol pair.other.owed 0 entry) (answer_id protocol entry) pair.other.owed else pair.other.owed) (Single entry)
         from true answer =
             let name = says answer in
             let it = one_answered pair entry orderly answer name expects in
-            let left : behind_single protocol (reply_of protocol pair.other.owed 0 entry) entry.id pair.other.owed ≡ behind_single protocol (reply_of protocol pair.other.owed 0 entry) (Some name.0) pair.other.owed =
-            ap (λ o. behind_single protocol (reply_of protocol pair.other.owed 0 entry) o pair.other.owed) name.2 in
+            let left : behind_single protocol (reply_of protocol pair.other.owed 0 entry) (answer_id protocol entry) pair.other.owed ≡ behind_single protocol (reply_of protocol pair.other.owed 0 entry) (Some name.0) pair.other.owed =
+            ap (λ o. behind_single protocol (reply_of protocol pair.other.owed 0 entry) o pair.other.owed) (by_name entry name) in
             record {
               orderly_after = subst AreOrderly (sym left) it.orderly;
               enough = λ q can.

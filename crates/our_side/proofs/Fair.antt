@@ -20,7 +20,7 @@ use Rattle.conversation_rules.specs.Amounts.{is_plain, is_null}
 use Rattle.conversation_rules.specs.Answers.{reply_of}
 use Rattle.conversation_rules.specs.Contents.{content_outcome, next_message, counted, sight_of, opened, have_huge, not_json_rule, are_answers, replies_in, reply_ids}
 use Rattle.conversation_rules.specs.Dues.{is_asked}
-use Rattle.conversation_rules.specs.Entries.{is_request, is_answer, is_both, form_findings, again_findings, request_findings, id_findings, behind_entry}
+use Rattle.conversation_rules.specs.Entries.{is_request, is_answer, answer_id, is_both, form_findings, again_findings, request_findings, id_findings, behind_entry}
 use Rattle.conversation_rules.specs.Owed.{has_twice}
 use Rattle.conversation_rules.specs.Judging.{Seen, stream_of, state_of, fault_rule, fault_finding, fault_findings_of, fault_findings, unanswered_finding, is_excused, left_unanswered, unanswered_findings, findings_of}
 use Rattle.conversation_rules.specs.Protocols.{is_mcp, odd_id_level}
@@ -139,7 +139,7 @@ module _ (P : Finding → Type 0) (message : Message) (may : (rule : Rule) → M
   their_reading protocol is_unfinished pair (Single entry) = (
     their_faulty P message may entry,
     ids_each P message (may rules.IdAgain) (may rules.IdFraction) (may rules.IdNull) (may rules.IdForm) protocol 0 false (opened message false entry.has_huge pair.own) entry,
-    none_each P (is_answer entry.kind) _ (single_each P message (their_answering P message may) protocol (sight_of pair) (reply_of protocol pair.other.owed 0 entry) entry.id pair.other.owed),
+    none_each P (is_answer entry.kind) _ (single_each P message (their_answering P message may) protocol (sight_of pair) (reply_of protocol pair.other.owed 0 entry) (answer_id protocol entry) pair.other.owed),
   )
   their_reading protocol is_unfinished pair (Array []) = may rules.EmptyArray
   their_reading protocol is_unfinished pair (Array (entry ∷ entries)) = (
@@ -300,7 +300,7 @@ module _ (side : Side) (those : Rule → Bool) (fair : IsFair those) (again : th
     our_reading is_unfinished pair (Single entry) said = (
       faultless P message entry said.faultless said.one_kind said.once,
       our_ids 0 false (opened message false entry.has_huge pair.own) entry said,
-      none_each P (is_answer entry.kind) _ (single_each P message our_answering protocol (sight_of pair) (reply_of protocol pair.other.owed 0 entry) entry.id pair.other.owed),
+      none_each P (is_answer entry.kind) _ (single_each P message our_answering protocol (sight_of pair) (reply_of protocol pair.other.owed 0 entry) (answer_id protocol entry) pair.other.owed),
     )
     our_reading is_unfinished pair (Array []) well = absurd well
     our_reading is_unfinished pair (Array (entry ∷ entries)) said = (

@@ -1,10 +1,9 @@
 -- The ids under which a connection answers what came are those that the judge expects.
 use Rattle.std.proofs.Common.{◌≡◌, inl, inr, ◌==◌, ◌||◌, ◌&&◌, not, ℕ, zero, suc, ◌-◌, ◌<◌, ◌^◌, nat_lt, nat_le, Bool, true, false, if◌then◌else◌, List, [], ◌∷◌, ◌++◌, map, length, Option, Some, None, option_map, is_some, refl, sym, ap, subst, ◌∙◌, arith, decimal}
-use Rattle.std.proofs.lemmas.Bool.{eqb-true, false_from_ne_true}
+use Rattle.std.proofs.lemmas.Bool.{eqb-true}
 use Rattle.std.proofs.lemmas.Bool.Decides.{nat_tests}
 use Rattle.std.proofs.lemmas.Fmt.{decimal_is_IsNumeral}
 use Rattle.std.proofs.lemmas.List.{map-append}
-use Rattle.std.proofs.lemmas.Slice.Eq.{bytes_eq-Decides}
 use Rattle.std.specs.Option.{option_map_or, option_to_list, is_none}
 use Rattle.std.specs.Prelude.{ℤ, negsuc, codes, option_and_then}
 use Rattle.std.specs.Str.{bytes_eq}
@@ -12,12 +11,9 @@ use Rattle.std.specs.Str.Parse.{AllDigits}
 use Rattle.json.specs.Find.{get}
 use Rattle.json.specs.Json as json
 use Rattle.json.specs.Json.{Json, array, object, Items, no_items, item}
-use Rattle.json.specs.Print.{print_from}
 use Rattle.json.specs.Tree.{HasNumbers, ItemsHaveNumbers}
 use Rattle.json_texts.specs.Texts.{json_text}
 use Rattle.connection_messages.proofs.Decimals.{unsigned_of-decimal, unsigned_of-is, unsigned_of-none}
-use Rattle.connection_messages.proofs.Enveloped.{json_text-same, member_numbers}
-use Rattle.connection_messages.specs.Envelope.{MemberHasNumbers}
 use Rattle.connection_messages.specs.Numbers.{unsigned_of, negated, negative_of}
 use Rattle.connection_messages.specs.Reading as lenient
 use Rattle.connection_messages.specs.Reading.{number_id_of, number_id, id_of, call_id, call_params, null_params, call_from, call_in as came_in, target_in, is_cancel, cancel_or_call, call_entry, key_in, reply_in, reply_entry}
@@ -29,7 +25,7 @@ use Rattle.connection_messages.specs.declared.reply.Reply.{Reply as Replied}
 use Rattle.connection_messages.specs.declared.rules.Rules.{Rules}
 use Rattle.conversation_reading.specs.Strictly as strict
 use Rattle.conversation_reading.specs.Twice.{has_twice as stands_twice}
-use Rattle.conversation_reading.specs.Strictly.{has, there_in, is_object, is_version_2, written_id, id_in, method_in, are_unfit, call_faults, answer_faults, no_object, faults_of, has_fault, call_kind}
+use Rattle.conversation_reading.specs.Strictly.{has, there_in, is_object, is_version_2, written_id, id_in, method_in, are_unfit, is_null_value, call_faults, answer_faults, no_object, faults_of, has_fault, call_kind}
 use Rattle.conversation_reading.specs.declared.entry.Entry.{Entry}
 use Rattle.conversation_reading.specs.declared.entry.Faults.{Faults}
 use Rattle.conversation_reading.specs.declared.entry.Kind.{Kind}
@@ -141,36 +137,18 @@ member_is (Some i) formed = id_member i formed
 
 -- whether they are unfit, and null; and what they are to a connection
 data AreParams : Bool → Bool → Option (Option (List ℕ)) → Type 0 where
-  fit : (is_null_text : Bool) (q : Option (List ℕ)) → AreParams false is_null_text (Some q)
+  fit : (q : Option (List ℕ)) → AreParams false false (Some q)
   null : (q : Option (List ℕ)) → AreParams true true (Some q)
   unfit : AreParams true false None
 
-null_text : bytes_eq (codes "null") (json_text json.null) ≡ true
-unfolding json_text print_from
-null_text = refl
-
-abbrev is_null_json : Json → Bool
-is_null_json json.null = true
-is_null_json _ = false
-
-null_is : (v : Json) → HasNumbers v → json_text v ≡ codes "null" → v ≡ json.null
-null_is v numbers same = json_text-same v json.null numbers tt (same ∙ (bytes_eq-Decides (codes "null") (json_text json.null)).0 null_text)
-
-other_text : (v : Json) → HasNumbers v → is_null_json v ≡ false → bytes_eq (codes "null") (json_text v) ≡ false
-other_text v numbers other =
-    false_from_ne_true (bytes_eq (codes "null") (json_text v)) (λ same. never (is_null_json v) (ap is_null_json (null_is v numbers (sym ((bytes_eq-Decides (codes "null") (json_text v)).0 same)))) other)
-
-other_params : (v : Json) → HasNumbers v → is_null_json v ≡ false → AreParams true (bytes_eq (codes "null") (json_text v)) None
-other_params v numbers other = subst (λ b. AreParams true b None) (sym (other_text v numbers other)) unfit
-
-params_are : (told : Bool) (o : Option Json) → MemberHasNumbers o → AreParams (are_unfit o) (option_map_or (bytes_eq (codes "null")) (option_map json_text o) false) (call_params told o)
-params_are told None numbers = fit false None
-params_are told (Some json.null) numbers = subst (λ b. AreParams true b (Some (null_params told))) (sym null_text) (null (null_params told))
-params_are told (Some (json.boolean b)) numbers = other_params (json.boolean b) numbers refl
-params_are told (Some (json.number s)) numbers = other_params (json.number s) numbers refl
-params_are told (Some (json.string s)) numbers = other_params (json.string s) numbers refl
-params_are told (Some (array js)) numbers = fit (bytes_eq (codes "null") (json_text (array js))) (Some (json_text (array js)))
-params_are told (Some (object ms)) numbers = fit (bytes_eq (codes "null") (json_text (object ms))) (Some (json_text (object ms)))
+params_are : (told : Bool) (o : Option Json) → AreParams (are_unfit o) (option_map_or is_null_value o false) (call_params told o)
+params_are told None = fit None
+params_are told (Some json.null) = null (null_params told)
+params_are told (Some (json.boolean b)) = unfit
+params_are told (Some (json.number s)) = unfit
+params_are told (Some (json.string s)) = unfit
+params_are told (Some (array js)) = fit (Some (json_text (array js)))
+params_are told (Some (object ms)) = fit (Some (json_text (object ms)))
 
 -- ---- calls
 
@@ -234,7 +212,7 @@ faulty version method params id = false || not version || method || params || id
 
 -- its only fault is that its params are null
 abbrev only : Bool → Bool → Bool → Bool → Bool → Bool
-only version method params text id = (params && not (false || not version || method || id || false || false)) && text
+only version method params nulls id = (params && not (false || not version || method || id || false || false)) && nulls
 
 module _ (cancels : Option Cancels) (j : Json) where
   nothing_tied : IsTied (Some Null) (call_entry cancels None j)
@@ -254,21 +232,21 @@ module _ (cancels : Option Cancels) (j : Json) where
       (call_some (Some o) method q (Some (written_as o)) refl)
 
   abbrev Tied : Bool → Option (List ℕ) → Bool → Bool → Option (Option (List ℕ)) → Bool → Option WrittenId → Option (Option Id) → Type 0
-  Tied version method unfit_ones text params there id given =
-      IsTied (expected_by (call_kind (faulty version (is_none method) unfit_ones (there && is_none id)) there) id (only version (is_none method) unfit_ones text (there && is_none id))) (call_entry cancels (call_from version method params given) j)
+  Tied version method unfit_ones null_ones params there id given =
+      IsTied (expected_by (call_kind (faulty version (is_none method) unfit_ones (there && is_none id)) there) id (only version (is_none method) unfit_ones null_ones (there && is_none id))) (call_entry cancels (call_from version method params given) j)
 
-  call_tied : (version : Bool) (method : Option (List ℕ)) (unfit_ones text : Bool) (params : Option (Option (List ℕ))) (there : Bool) (id : Option WrittenId) (given : Option (Option Id))
-      → AreParams unfit_ones text params → IsMember there id given → Tied version method unfit_ones text params there id given
-  call_tied false method _ _ _ _ _ _ (fit text q) member = nothing_tied
+  call_tied : (version : Bool) (method : Option (List ℕ)) (unfit_ones null_ones : Bool) (params : Option (Option (List ℕ))) (there : Bool) (id : Option WrittenId) (given : Option (Option Id))
+      → AreParams unfit_ones null_ones params → IsMember there id given → Tied version method unfit_ones null_ones params there id given
+  call_tied false method _ _ _ _ _ _ (fit q) member = nothing_tied
   call_tied false method _ _ _ _ _ _ (null q) member = nothing_tied
   call_tied false method _ _ _ _ _ _ unfit member = nothing_tied
-  call_tied true None _ _ _ _ _ _ (fit text q) member = nothing_tied
+  call_tied true None _ _ _ _ _ _ (fit q) member = nothing_tied
   call_tied true None _ _ _ _ _ _ (null q) member = nothing_tied
   call_tied true None _ _ _ _ _ _ unfit member = nothing_tied
-  call_tied true (Some m) _ _ _ _ _ _ (fit text q) absent = call_some None m q None refl
-  call_tied true (Some m) _ _ _ _ _ _ (fit text q) none = nothing_tied
-  call_tied true (Some m) _ _ _ _ _ _ (fit text q) (odd w is) = odd_expected w is
-  call_tied true (Some m) _ _ _ _ _ _ (fit text q) (known o is) = known_call o m q is
+  call_tied true (Some m) _ _ _ _ _ _ (fit q) absent = call_some None m q None refl
+  call_tied true (Some m) _ _ _ _ _ _ (fit q) none = nothing_tied
+  call_tied true (Some m) _ _ _ _ _ _ (fit q) (odd w is) = odd_expected w is
+  call_tied true (Some m) _ _ _ _ _ _ (fit q) (known o is) = known_call o m q is
   call_tied true (Some m) _ _ _ _ _ _ (null q) absent = call_some None m q None refl
   call_tied true (Some m) _ _ _ _ _ _ (null q) none = nothing_tied
   call_tied true (Some m) _ _ _ _ _ _ (null q) (odd w is) = odd_expected w is
@@ -288,7 +266,7 @@ module _ (rules : Rules) (j : Json) (numbers : HasNumbers j) where
   kind_with is_one m r = if m then call_kind (has_fault (faults_with is_one m)) (has (codes "id") j) else (if r then (if has_fault (faults_with is_one m) || stands_twice j then BrokenAnswer else Answer) else Invalid)
 
   abbrev null_with : Bool → Bool → Bool
-  null_with is_one m = only_params (faults_with is_one m) && option_map_or (bytes_eq (codes "null")) (option_map json_text (get (codes "params") j)) false
+  null_with is_one m = only_params (faults_with is_one m) && option_map_or is_null_value (get (codes "params") j) false
 
   abbrev read_with : Bool → Bool → Read
   read_with m r = if m then call_entry rules.cancels (came_in rules.null_params j) j else (if r then reply_entry (key_in j) (reply_in j) else Nothing)
@@ -304,9 +282,9 @@ module _ (rules : Rules) (j : Json) (numbers : HasNumbers j) where
 
   tied_with : (is_one m r : Bool) → (m ≡ true → is_one ≡ true) → TiedWith is_one m r
   tied_with true true r is =
-      call_tied rules.cancels j (is_version_2 j) (method_in j) (are_unfit (get (codes "params") j)) (option_map_or (bytes_eq (codes "null")) (option_map json_text (get (codes "params") j)) false)
+      call_tied rules.cancels j (is_version_2 j) (method_in j) (are_unfit (get (codes "params") j)) (option_map_or is_null_value (get (codes "params") j) false)
       (call_params rules.null_params (get (codes "params") j)) (has (codes "id") j) (id_in j) (call_id (get (codes "id") j))
-      (params_are rules.null_params (get (codes "params") j) (member_numbers (codes "params") j numbers)) (member_is (get (codes "id") j) (entry_formed j numbers))
+      (params_are rules.null_params (get (codes "params") j)) (member_is (get (codes "id") j) (entry_formed j numbers))
   tied_with false true r is = never false (is refl) refl
   tied_with is_one false true is = reply_tied (id_in j) (null_with is_one false) (has_fault (faults_with is_one false) || stands_twice j) (key_in j) (reply_in j)
   tied_with true false false is = refl

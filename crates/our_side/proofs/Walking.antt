@@ -10,7 +10,7 @@ use Rattle.conversation_rules.specs.Answers.{Each as Taken, cancelled_code_level
 use Rattle.conversation_rules.specs.Contents.{Outcome, not_json_rule, sight_of, opened, single_answer_findings, single_outcome, empty_outcome, are_answers, batch_findings, entries_findings, replies_in, reply_ids, have_huge, array_outcome, line_end_findings, behind_line_end, reading_outcome}
 use Rattle.conversation_rules.specs.Dues as dues
 use Rattle.conversation_rules.specs.Dues.{settled, found_batch, unreadable_target}
-use Rattle.conversation_rules.specs.Entries.{is_cancel, is_request, is_undefined, is_well, code_of, is_kept_name, is_notification, is_both, fault_findings, both_findings, twice_findings, code_findings, name_findings, target_findings, cancel_findings, id_findings, fills_id, full_findings, part_findings, plain_findings, entry_findings, behind_entry, unknown_level}
+use Rattle.conversation_rules.specs.Entries.{is_cancel, is_request, is_undefined, is_well, code_of, is_kept_name, is_notification, is_both, fault_findings, both_findings, twice_findings, code_findings, name_findings, may_lack_id, cancel_params_level, target_findings, cancel_findings, id_findings, fills_id, full_findings, part_findings, plain_findings, entry_findings, behind_entry, unknown_level}
 use Rattle.conversation_rules.specs.Owed.{Due, has_twice}
 use Rattle.conversation_rules.specs.Protocols.{batch_level, is_mcp}
 use Rattle.conversation_rules.specs.Speakers.{Speaker, Pair, found, found_if}
@@ -87,14 +87,19 @@ EntriesMay P message protocol at (entry ∷ entries) own = Faulty P message entr
 
 -- ---- an entry by itself
 
+left_of : (a b : Bool) → (a && b) ≡ true → a ≡ true
+left_of true b is = refl
+left_of false b is = is
+
 module _ (P : Finding → Type 0) (message : Message) (host : Hosts P message) where
-  faults_each : (at : ℕ) (entry : Entry) → Faulty P message entry → Each P (fault_findings message at entry.faults)
-  faults_each at entry faulty =
+  faults_each : (protocol : Protocol) (at : ℕ) (entry : Entry) → Faulty P message entry → Each P (fault_findings protocol message at entry.there entry.faults)
+  faults_each protocol at entry faulty =
       let f = entry.faults in
       let o = λ (r : Rule). found message at r Must in
+      let has = not (may_lack_id protocol entry.there) in
       each-append P _ (found_if f.error (o rules.Error))
       (each-append P _ (found_if f.outcome (o rules.Outcome))
-      (each-append P _ (found_if f.id (o rules.Id))
+      (each-append P _ (found_if (f.id && has) (o rules.Id))
       (each-append P _ (found_if f.params (o rules.Params))
       (each-append P _ (found_if f.method (o rules.Method))
       (each-append P (found_if f.object (o rules.Object)) (found_if f.version (o rules.Version))
@@ -102,13 +107,13 @@ module _ (P : Finding → Type 0) (message : Message) (host : Hosts P message) w
       (each_if P f.version (o rules.Version) (λ is. faulty.version is at Must)))
       (each_if P f.method (o rules.Method) (λ is. faulty.method is at Must)))
       (each_if P f.params (o rules.Params) (λ is. faulty.params is at Must)))
-      (each_if P f.id (o rules.Id) (λ is. faulty.id is at Must)))
+      (each_if P (f.id && has) (o rules.Id) (λ is. faulty.id (left_of f.id has is) at Must)))
       (each_if P f.outcome (o rules.Outcome) (λ is. faulty.outcome is at Must)))
       (each_if P f.error (o rules.Error) (λ is. faulty.error is at Must))
 
-  target_each : (protocol : Protocol) (at : ℕ) (own : Speaker) (target : Option WrittenId) → Each P (target_findings protocol message at own target)
-  target_each protocol at own None = (host.cancel_params at Must, tt)
-  target_each protocol at own (Some id) =
+  target_each : (protocol : Protocol) (at : ℕ) (own : Speaker) (level : Level) (target : Option WrittenId) → Each P (target_findings protocol message at own level target)
+  target_each protocol at own level None = (host.cancel_params at level, tt)
+  target_each protocol at own level (Some id) =
       each-append P (found_if (not (is_used id own.used) && not own.used.is_full) (found message at rules.CancelUnknown (unknown_level protocol own))) _
       (each_if P (not (is_used id own.used) && not own.used.is_full) (found message at rules.CancelUnknown (unknown_level protocol own)) (λ is. host.cancel_unknown at (unknown_level protocol own)))
       (each_if P (is_mcp protocol && is_used id own.initialize) (found message at rules.CancelInitialize Must) (λ is. host.cancel_initialize at Must))
@@ -122,12 +127,12 @@ module _ (P : Finding → Type 0) (message : Message) (host : Hosts P message) w
       (each-append P _ (name_findings message at entry)
       (each-append P _ (code_findings protocol message at entry)
       (each-append P _ (twice_findings message at entry)
-      (each-append P (fault_findings message at entry.faults) (both_findings message at entry) (faults_each at entry faulty)
+      (each-append P (fault_findings protocol message at entry.there entry.faults) (both_findings message at entry) (faults_each protocol at entry faulty)
       (each_if P (is_both entry.there) (found message at rules.BothKinds Must) (λ is. faulty.both is at Must)))
       (each_if P (has_twice entry) (found message at rules.Twice Should) (λ is. faulty.twice is at Should)))
       (each_if P (is_well entry.kind && option_map_or (is_undefined protocol) (code_of entry) false) (found message at rules.Code Must) (λ is. host.code at Must)))
       (each_if P ((is_request entry.kind || is_notification entry.kind) && option_map_or is_kept_name entry.method false) (found message at rules.RpcName Note) (λ is. host.name at Note)))
-      (each_unless P (is_cancel protocol entry) (target_findings protocol message at own entry.target) [] (target_each protocol at own entry.target) tt)) ids)
+      (each_unless P (is_cancel protocol entry) (target_findings protocol message at own (cancel_params_level protocol entry) entry.target) [] (target_each protocol at own (cancel_params_level protocol entry) entry.target) tt)) ids)
       (each_if P (fills_id entry own) (found message at rules.NotJudged Note) (λ is. host.not_judged at Note))
 
   pub entries_each : (protocol : Protocol) (at : ℕ) (entries : List Entry) (own : Speaker) → EntriesMay P message protocol at entries own → Each P (entries_findings protocol message at entries own)

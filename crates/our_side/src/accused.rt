@@ -13,7 +13,7 @@ ghost use Rattle.connection_messages.specs.declared.unit.Unit.TheVariants.{Singl
 ghost use Rattle.conversation_rules.specs.Rows.{request, no_method, null_call, null_answer, array_of, says, told, tells};
 ghost use Rattle.conversation_rules.specs.declared.finding.Rule.TheVariants as rules;
 ghost use Rattle.conversation_rules.specs.declared.level.Level.TheVariants.{Must, Note};
-ghost use Rattle.conversation_rules.specs.declared.protocol.Protocol.TheVariants.{JsonRpc, McpWithBatches};
+ghost use Rattle.conversation_rules.specs.declared.protocol.Protocol.TheVariants.{JsonRpc, Mcp20250326};
 ghost use Rattle.conversation_rules.specs.declared.side.Side.TheVariants.{Client, Server};
 ghost use Rattle.message_ids.specs.declared.id.Id.TheVariants.{Null, Text};
 ghost use Rattle.message_ids.specs.declared.standard.Standard.TheVariants.{InvalidRequest};
@@ -52,7 +52,7 @@ pub fn cancelled_requests_are_left_in_batches()
     ensures lawful { IsLawful (Some cancels.Mcp) left_in_batches }
     ensures said { messages_of AsAnswered left_in_batches
         ≡ answers ((Text (codes "x"), one) ∷ []) ∷ answers ((Text (codes "y"), one) ∷ []) ∷ [] }
-    ensures found { told McpWithBatches (says Client first_batch ∷ says Client second_batch
+    ensures found { told Mcp20250326 (says Client first_batch ∷ says Client second_batch
         ∷ says Server (array_of (answer_with (codes "x") ∷ [])) ∷ says Server (array_of (answer_with (codes "y") ∷ [])) ∷ [])
         ≡ tells Client rules.IdAgain Must 2 1 ∷ tells Server rules.AfterCancel Note 1 1
         ∷ tells Server rules.NotOwed Must 2 1 ∷ [] }

@@ -7,7 +7,7 @@ use Rattle.content_streams.specs.declared.framing.Framing.{Framing}
 use Rattle.content_streams.specs.declared.framing.Framing.TheVariants.{Frames, Lines, Contents}
 use Rattle.conversation_rules.specs.Judging.{Seen, Wrote, Closed, Failed}
 use Rattle.conversation_rules.specs.declared.protocol.Protocol.{Protocol}
-use Rattle.conversation_rules.specs.declared.protocol.Protocol.TheVariants.{JsonRpc, Lsp, Mcp, McpWithBatches}
+use Rattle.conversation_rules.specs.declared.protocol.Protocol.TheVariants.{JsonRpc, Lsp, Mcp, Mcp20250618, Mcp20250326, Mcp20241105}
 use Rattle.conversation_rules.specs.declared.side.Side.{Side}
 use Rattle.conversation_rules.specs.declared.side.Side.TheVariants.{Client, Server}
 use Rattle.recorded_talks.specs.Digits.{bytes_of}
@@ -42,7 +42,10 @@ protocol_named name =
     if bytes_eq name (codes "jsonrpc") then Some JsonRpc else
     if bytes_eq name (codes "lsp") then Some Lsp else
     if bytes_eq name (codes "mcp") then Some Mcp else
-    if bytes_eq name (codes "mcp:2025-03-26") then Some McpWithBatches else
+    if bytes_eq name (codes "mcp:2025-11-25") then Some Mcp else
+    if bytes_eq name (codes "mcp:2025-06-18") then Some Mcp20250618 else
+    if bytes_eq name (codes "mcp:2025-03-26") then Some Mcp20250326 else
+    if bytes_eq name (codes "mcp:2024-11-05") then Some Mcp20241105 else
     None
 
 abbrev pub framing_named : List ℕ → Option Framing

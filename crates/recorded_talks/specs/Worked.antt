@@ -2,14 +2,15 @@
 use Rattle.std.specs.Prelude.{◌≡◌, [], ◌∷◌, Some, None, codes}
 use Rattle.content_streams.specs.declared.framing.Framing.TheVariants.{Lines, Contents}
 use Rattle.conversation_rules.specs.Judging.{Wrote, Closed, Failed}
-use Rattle.conversation_rules.specs.declared.protocol.Protocol.TheVariants.{Lsp, McpWithBatches}
+use Rattle.conversation_rules.specs.declared.protocol.Protocol.TheVariants.{Lsp, Mcp, Mcp20250326}
 use Rattle.conversation_rules.specs.declared.side.Side.TheVariants.{Client, Server}
 use Rattle.recorded_talks.specs.Recorded.{head_of, said_by}
 
 -- what first lines say
 pub record WorkedHeads : Type 0 where
   pub usual : head_of (codes "judge 1 lsp lines") ≡ Some (record { protocol = Lsp; framing = Lines })
-  pub blanks : head_of (codes "judge 1 mcp:2025-03-26 contents  ") ≡ Some (record { protocol = McpWithBatches; framing = Contents })
+  pub blanks : head_of (codes "judge 1 mcp:2025-03-26 contents  ") ≡ Some (record { protocol = Mcp20250326; framing = Contents })
+  pub newest : head_of (codes "judge 1 mcp:2025-11-25 lines") ≡ Some (record { protocol = Mcp; framing = Lines })
   pub other_version : head_of (codes "judge 2 lsp lines") ≡ None
   pub other_rules : head_of (codes "judge 1 http lines") ≡ None
   pub other_framing : head_of (codes "judge 1 jsonrpc words") ≡ None

@@ -42,8 +42,10 @@ pub(crate) fn protocol_named(name: &str) -> Option<Protocol>
     match name {
         "jsonrpc" => Some(Protocol::JsonRpc),
         "lsp" => Some(Protocol::Lsp),
-        "mcp" => Some(Protocol::Mcp),
-        "mcp:2025-03-26" => Some(Protocol::McpWithBatches),
+        "mcp" | "mcp:2025-11-25" => Some(Protocol::Mcp),
+        "mcp:2025-06-18" => Some(Protocol::Mcp20250618),
+        "mcp:2025-03-26" => Some(Protocol::Mcp20250326),
+        "mcp:2024-11-05" => Some(Protocol::Mcp20241105),
         _ => None,
     }
 }

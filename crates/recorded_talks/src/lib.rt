@@ -2,7 +2,7 @@
 //! read, with a line for each finding and a summary. Its lines are
 //!
 //! ```text
-//! judge 1 RULES FRAMING      the first line: jsonrpc, lsp, mcp or mcp:2025-03-26; frames, lines or contents
+//! judge 1 RULES FRAMING      the first line: jsonrpc, lsp, or mcp or mcp:VERSION; frames, lines or contents
 //! > HEX                      the client wrote these bytes, two hexadecimal digits each
 //! < HEX                      the server did
 //! > closed                   the client's stream was closed

@@ -45,7 +45,8 @@ class Judge(Base):
     ) -> None:
         """Make a judge.
 
-        rules -- "jsonrpc", "lsp", "mcp" (which is MCP 2025-06-18 to the library) or "mcp:2025-03-26"
+        rules -- "jsonrpc", "lsp", "mcp" (which is MCP 2025-11-25 to the library), "mcp:2025-06-18", "mcp:2025-03-26" or
+            "mcp:2024-11-05"
         framing -- "frames", "lines" or "contents"
         content -- how many bytes a content may have, at most 16,777,216, which is also the default
         """

@@ -7,6 +7,7 @@ from typing import Collection, Deque, Dict, Iterable, List, NamedTuple, Optional
 
 from .._log import shown
 from ..errors import NoMemory
+from ._amended import added, amended
 from ._judge import MOST_CONTENT, SIDES, Finding, Judge
 from ._life import OTHER, Asked, Breach, Key, Life, key_of, member
 from ._life_lsp import Lsp
@@ -15,8 +16,7 @@ from ._recording import Event
 from ._rules import LIFE, NOTE, UNREADABLE
 from ._slow import Slow
 from ._streams import ABSENT, Entry, Message, Stream, read, twice_in
-from ._taken_back import amended
-from ._versions import VERSIONS, of_library
+from ._versions import VERSIONS, WITH_BATCHES, of_library
 
 #: How much of a message is quoted.
 QUOTED = 160
@@ -28,8 +28,8 @@ _LEVELS = {it.name: it.levels for it in LIFE}
 # The notification that cancels, and the member that names the request.
 _CANCELS = {"lsp": ("$/cancelRequest", "id")}
 _CANCELS.update({it: ("notifications/cancelled", "requestId") for it in VERSIONS})
-# The protocols that have no batches, and what an array is made of that the library takes no refusal of.
-_NO_BATCHES, _OWED_NOTHING = ("lsp", "mcp"), {"notification", "answer"}
+# The rules that have batches, and what an array is made of that the library takes no refusal of.
+_BATCHES, _OWED_NOTHING = ("jsonrpc", f"mcp:{WITH_BATCHES}"), {"notification", "answer"}
 
 
 class Times:
@@ -227,7 +227,8 @@ class Talk:
 
     def _message(self, message: Message, found: List[Finding], at: Optional[float]) -> List[Finding]:
         """All that is found in a message, with what the library finds in it."""
-        told = [it for it in (self._told(it, message) for it in found) if it is not None]
+        all_found = [*(added(message, self.edition) if self.rules == "mcp" else ()), *found]
+        told = [it for it in (self._told(it, message) for it in all_found) if it is not None]
         # (what stands twice may have been read otherwise, and then a session's life went on otherwise)
         self.sides[message.side].is_unsure |= any(it.rule == "twice" for it in found)
         if UNREADABLE.isdisjoint(it.rule for it in found):
@@ -240,7 +241,7 @@ class Talk:
 
     def _told(self, found: Finding, message: Message) -> Optional[Finding]:
         """A finding of the library's, with its words, if the version of MCP has the rule."""
-        it = amended(found, message, self.edition)
+        it = amended(found, self.edition)
         if it is None or it.words:
             return it and it._replace(words=f"{it.words}: {quoted(message.content)}")
         if it.rule == "not-owed" and it.level != NOTE and self._is_refusal(message):
@@ -260,9 +261,9 @@ class Talk:
         return True
 
     def _refused(self) -> str:
-        if of_library(self.rules) in _NO_BATCHES:
-            return "an array may be refused where there are no batches"
-        return "a batch may be refused whole"
+        if self.rules in _BATCHES:
+            return "a batch may be refused whole"
+        return "an array may be refused where there are no batches"
 
     def _hint(self, it: Finding, message: Message) -> str:
         """Which members stand twice; or what may have been meant by an answer that nobody waits for: a refusal, or an id

@@ -12,7 +12,5 @@ WITH_BATCHES = "2025-03-26"
 
 
 def of_library(rules: str) -> str:
-    """The rules of the library's, which knows two versions of MCP: with batches, and without."""
-    if rules not in VERSIONS:
-        return rules
-    return f"mcp:{WITH_BATCHES}" if rules == f"mcp:{WITH_BATCHES}" else "mcp"
+    """The library's rules, whose "mcp" is the newest version."""
+    return "mcp" if VERSIONS.get(rules) == MCP[-1] else rules

@@ -150,7 +150,15 @@ pub const RULES: ChoiceOption = ChoiceOption {
     name: "rules",
     value_name: "NAME",
     help: "The rules to judge by; by default those that the recording names",
-    words: &["jsonrpc", "lsp", "mcp", "mcp:2025-03-26"],
+    words: &[
+        "jsonrpc",
+        "lsp",
+        "mcp",
+        "mcp:2025-11-25",
+        "mcp:2025-06-18",
+        "mcp:2025-03-26",
+        "mcp:2024-11-05",
+    ],
     usual: "",
 };
 

@@ -1,9 +1,6 @@
 use Rattle.std.proofs.Common.{◌∙◌}
-use Rattle.conversation_reading.proofs.Elements.{item_has_numbers, entries_of-more}
+use Rattle.conversation_reading.proofs.Elements.{entries_of-more}
 use Rattle.conversation_reading.proofs.read.read_entries.Goals as goal
-
-pub read_entry-requires : goal.read_entry-requires
-read_entry-requires c = item_has_numbers c.args.values.now c.loop-value.value-index c.value-item.result c.requires c.loop-value-test.true c.value-item.is
 
 pub loop-value-preserved : goal.loop-value-preserved
 loop-value-preserved c =
