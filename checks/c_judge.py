@@ -2,7 +2,7 @@
 
 The judge of the C library. Its header names the rules, their sections and who keeps them as the table of docs/judge.md
 does. The worked rows of judge_rows/ and random conversations, cut at random, with rooms for few findings, have the findings that the plain model has
-(`support/judge_model.py`), by each set of rules; with limits of their own too. Options, sides and ends that there aren't
+(`support/judge_model.py`), by each set of rules; with limits of their own too. An array of too many entries takes no room for these. Options, sides and ends that there aren't
 are refused, and nothing is changed by them. Each request for memory is refused in turn: what was found before is told,
 and nothing more is seen. Under valgrind, where it is installed, nothing is lost. The example examples/c/judging.c is
 built and run."""
@@ -24,6 +24,8 @@ from support.judged_in_c import KINDS, NAMES, talks
 
 CASES, FEW = 300, 12
 TOGETHER = 40
+# The most room of a process that judges an array of 16 MB, in bytes: that of its values, twice for a while, and its text.
+MOST_ROOM = 600 << 20
 # What the example is given, its status, and what it has to write.
 SHOWN = (
     b'> {"jsonrpc":"2.0","method":"a","id":7}\n< {"jsonrpc":"2.0","id":"7","result":1}\n'
@@ -106,6 +108,17 @@ def check_limits(count: ran.Count, program: str) -> None:
         lines = [f"code {judged.OK}"] * 2 + [*map(NAMES.line, judge.findings), f"count {len(judge.findings)}"]
         got = said([program], f"judge 0 1 {content} {ids}\nsaw 0 {asks.hex()}\nnext 1000\n".encode())
         count.same(f"a limit of {content} bytes and of {ids} ids", (got[0], got[1].decode().splitlines()), (0, lines))
+
+
+def check_entries(count: ran.Count, program: str) -> None:
+    """An array of 8,388,607 entries, which are more than are judged, takes no room behind what its values take."""
+    ones = b"[" + b"1," * 8_388_606 + b"1]"
+    judge = Judge("jsonrpc", "contents", MOST_CONTENT, MOST_IDS)
+    conversations.show(judge, [Seen("client", ones)])
+    lines = ["code 0", "code 0", *map(NAMES.line, judge.findings), "count 1"]
+    limited = ["sh", "-c", f'ulimit -v {MOST_ROOM // 1024} && exec "$0"', program]
+    got = said(limited, f"judge 0 2 0 0\nsaw 0 {ones.hex()}\nnext 9\n".encode())
+    count.same(f"an array of 16 MB in {MOST_ROOM:,} bytes", (got[0], got[1].decode().splitlines()), (0, lines))
 
 
 def check_refused(count: ran.Count, program: str) -> None:

@@ -13,6 +13,7 @@ from support.reading import ABSENT, DEPTH, WHOLE
 NUMBER = re.compile(r"(-?)([0-9]+)(?:\.([0-9]+))?(?:[eE]([+-]?[0-9]+))?")
 BRACKETS = {"[": "]", "{": "}"}
 SAFE_DEPTH = 31  # what nests deeper may be refused by a reader
+MOST_ENTRIES = 100_000  # of an array that is looked into
 
 
 # Contents
@@ -305,6 +306,8 @@ def unit_of(content: Content) -> Unit:
     value = value_of(content)
     is_array = isinstance(value, list) and not isinstance(value, Members)
     values = value if is_array else [value]
+    if len(values) > MOST_ENTRIES:
+        raise Unreadable("not-judged", f"it has more than {MOST_ENTRIES:,} entries")
     texts = tuple(connection_reading.text_of(it) for it in values)
     entries = tuple(map(entry_of, values))
     is_twice = any(it.first is not None for it in entries)

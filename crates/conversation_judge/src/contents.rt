@@ -329,7 +329,7 @@ fn take_reading(
                 Level::Must,
             )
         }
-        Reading::TooDeep | Reading::HalfPair => {
+        Reading::OverLimits | Reading::HalfPair => {
             take_unreadable(findings, message, own, other, Rule::NotJudged, Level::Note)
         }
         Reading::Single(entry) => {

@@ -1,5 +1,5 @@
 -- How the members of a message are looked up.
-use Rattle.std.specs.Prelude.{◌≡◌, Bool, option_map, codes}
+use Rattle.std.specs.Prelude.{◌≡◌, option_map, codes}
 use Rattle.json.specs.Json.{Json}
 use Rattle.json.specs.Find.{get}
 use Rattle.json.specs.Value.{value_view}

@@ -1,5 +1,5 @@
 -- What a content is, strictly by JSON-RPC 2.0, sections 4 to 6.
-use Rattle.std.specs.Prelude.{ℕ, ◌&&◌, ◌||◌, not, List, [], ◌∷◌, Bool, true, false, Option, Some, None, option_map, option_and_then, is_some, codes, if◌then◌else◌}
+use Rattle.std.specs.Prelude.{ℕ, ◌&&◌, ◌||◌, not, nat_lt, List, [], ◌∷◌, length, Bool, true, false, Option, Some, None, option_and_then, is_some, codes, if◌then◌else◌}
 use Rattle.std.specs.Option.{option_map_or, is_none}
 use Rattle.std.specs.Str.{bytes_eq, is_utf8}
 use Rattle.json.specs.Json.{Json, null, number, string, array, object, Items, no_items, item}
@@ -20,8 +20,8 @@ use Rattle.conversation_reading.specs.declared.entry.There.{There}
 use Rattle.conversation_reading.specs.declared.entry.WrittenId.{WrittenId}
 use Rattle.conversation_reading.specs.declared.entry.WrittenId.TheVariants.{Null, Text, Number}
 use Rattle.conversation_reading.specs.declared.reading.Reading.{Reading}
-use Rattle.conversation_reading.specs.declared.reading.Reading.TheVariants.{Foreign, NotText, NotJson, TooDeep, HalfPair, Single, Array}
-use Rattle.conversation_reading.specs.declared.reading.TheConstants.{MOST_DEPTH_IN}
+use Rattle.conversation_reading.specs.declared.reading.Reading.TheVariants.{Foreign, NotText, NotJson, OverLimits, HalfPair, Single, Array}
+use Rattle.conversation_reading.specs.declared.reading.TheConstants.{MOST_DEPTH_IN, MOST_ENTRIES_IN}
 
 -- ---- members: null is there, and of a name that stands twice the last counts
 
@@ -162,7 +162,7 @@ value_reading j = Single (entry_of j)
 
 -- why a text has no value: it nests too deep, and is JSON up to there; or it is JSON all the same, with half of a pair
 abbrev pub unreadable_with : List ℕ → Option (List ℕ) → Reading
-unreadable_with text (Some front) = if is_json front then TooDeep else NotJson
+unreadable_with text (Some front) = if is_json front then OverLimits else NotJson
 unreadable_with text None = if is_json text then HalfPair else NotJson
 
 abbrev pub unreadable : List ℕ → Reading
@@ -176,3 +176,12 @@ json_reading text (Some j) = value_reading j
 abbrev pub reading_of : Bool → List ℕ → Reading
 reading_of true content = Foreign
 reading_of false content = if is_utf8 content then json_reading content (value_of MOST_DEPTH_IN content) else NotText
+
+-- ---- an array with more entries than the reader takes isn't looked into
+
+abbrev pub limited : Reading → Reading
+limited (Array entries) = if nat_lt MOST_ENTRIES_IN (length entries) then OverLimits else Array entries
+limited reading = reading
+
+abbrev pub limited_reading : Bool → List ℕ → Reading
+limited_reading foreign content = limited (reading_of foreign content)

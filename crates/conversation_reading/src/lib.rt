@@ -22,5 +22,5 @@ pub use law::{
     whole_numbers,
 };
 pub use number::is_whole;
-pub use reading::{MOST_DEPTH_IN, Reading, StrictReader, limits_of_depth_in_figures};
+pub use reading::{MOST_DEPTH_IN, MOST_ENTRIES_IN, Reading, StrictReader, limits_in_figures};
 pub use whole::{Whole, whole_of};

@@ -1,12 +1,13 @@
 //! From contents to readings.
 
 ghost use Rattle.std.specs.Prelude.{◌≡◌, IfOk, option_map};
-ghost use Rattle.json.specs.Value.{value_view};
+ghost use Rattle.json.specs.Value.{value_view, items_view};
 ghost use Rattle.json_texts.specs.Texts.{value_of};
 ghost use Rattle.conversation_reading.specs.Fronts.{is_json};
-ghost use Rattle.conversation_reading.specs.Strictly.{value_reading, unreadable, json_reading, reading_of};
+ghost use Rattle.conversation_reading.specs.Strictly.{entries_of, value_reading, unreadable, json_reading, limited, limited_reading};
 ghost use Rattle.conversation_reading.specs.declared.nesting.TheConstants.{SAFE_DEPTH};
-ghost use Rattle.conversation_reading.specs.declared.reading.TheConstants.{MOST_DEPTH_IN};
+ghost use Rattle.conversation_reading.specs.declared.reading.Reading.TheVariants.{Array};
+ghost use Rattle.conversation_reading.specs.declared.reading.TheConstants.{MOST_DEPTH_IN, MOST_ENTRIES_IN};
 
 use crate::entry::Entry;
 use crate::front::{front_of, without_halves};
@@ -19,9 +20,12 @@ use std::alloc::{AllocError, Global};
 /// A content that nests deeper isn't read, each array or object counting one.
 pub const MOST_DEPTH_IN: usize = 127;
 
+/// An array with more entries isn't read: each takes a hundred times the room of its two bytes, and more behind that.
+pub const MOST_ENTRIES_IN: usize = 100_000;
+
 /// The limits in figures. All other definitions and clauses cite the constants.
-pub fn limits_of_depth_in_figures()
-    ensures { (MOST_DEPTH_IN ≡ 127) × (SAFE_DEPTH ≡ 31) }
+pub fn limits_in_figures()
+    ensures { (MOST_DEPTH_IN ≡ 127) × (MOST_ENTRIES_IN ≡ 100000) × (SAFE_DEPTH ≡ 31) }
 {}
 
 /// The room that reading takes is kept from one content to the next where the content is at most this long, in bytes.
@@ -36,8 +40,9 @@ pub enum Reading {
     NotText,
     /// It isn't JSON.
     NotJson,
-    /// Arrays and objects nest deeper than 127 in it, before anything else in it is wrong.
-    TooDeep,
+    /// Arrays and objects nest deeper than 127 in it, before anything else in it is wrong; or it is an array with more
+    /// than 100,000 entries.
+    OverLimits,
     /// It is JSON, and a string in it has half of a surrogate pair.
     HalfPair,
     /// One entry.
@@ -65,7 +70,7 @@ impl StrictReader {
     /// What a content is. Every content has a reading, so it is refused only where it is out of memory; it can be read
     /// again then.
     pub fn read(&mut self, foreign: bool, content: &[u8]) -> Result<Reading, AllocError>
-        ensures { IfOk result (λ reading. reading ≡ reading_of foreign content.now) }
+        ensures { IfOk result (λ reading. reading ≡ limited_reading foreign content.now) }
     {
         if foreign {
             return Ok(Reading::Foreign);
@@ -78,7 +83,7 @@ impl StrictReader {
 
     fn read_text(&mut self, text: &str) -> Result<Reading, AllocError>
         ensures { IfOk result
-            (λ reading. reading ≡ json_reading text.now (value_of MOST_DEPTH_IN text.now)) }
+            (λ reading. reading ≡ limited (json_reading text.now (value_of MOST_DEPTH_IN text.now))) }
     {
         let mut scratch = self.take_scratch()?;
         let reading = read_json(self.alloc, text, &mut scratch);
@@ -99,7 +104,7 @@ impl StrictReader {
 }
 
 fn read_json(alloc: Global, text: &str, scratch: &mut Scratch) -> Result<Reading, AllocError>
-    ensures { IfOk result (λ reading. reading ≡ json_reading text.now (value_of MOST_DEPTH_IN text.now)) }
+    ensures { IfOk result (λ reading. reading ≡ limited (json_reading text.now (value_of MOST_DEPTH_IN text.now))) }
 {
     if let Some(value) = read_str(alloc, text, MOST_DEPTH_IN, scratch)? {
         return read_value(alloc, &value);
@@ -111,12 +116,12 @@ fn read_json(alloc: Global, text: &str, scratch: &mut Scratch) -> Result<Reading
 #[cold]
 #[inline(never)]
 fn read_unreadable(alloc: Global, text: &[u8], scratch: &mut Scratch) -> Result<Reading, AllocError>
-    ensures { IfOk result (λ reading. reading ≡ unreadable text.now) }
+    ensures { IfOk result (λ reading. reading ≡ limited (unreadable text.now)) }
 {
     match front_of(alloc, text)? {
         Some(front) => {
             if is_json(alloc, front.as_slice(), scratch)? {
-                Ok(Reading::TooDeep)
+                Ok(Reading::OverLimits)
             } else {
                 Ok(Reading::NotJson)
             }
@@ -146,15 +151,22 @@ fn is_json(alloc: Global, text: &[u8], scratch: &mut Scratch) -> Result<bool, Al
 }
 
 fn read_value(alloc: Global, value: &Value<'_>) -> Result<Reading, AllocError>
-    ensures { IfOk result (λ reading. reading ≡ value_reading (value_view value.now)) }
+    ensures { IfOk result (λ reading. reading ≡ limited (value_reading (value_view value.now))) }
 {
     match value {
-        Value::Array(items) => {
-            let entries = read_entries(alloc, items.as_slice())?;
-            Ok(Reading::Array(Items::from(entries)))
-        }
+        Value::Array(items) => read_array(alloc, items.as_slice()),
         value => Ok(Reading::Single(read_entry(alloc, value)?)),
     }
+}
+
+fn read_array(alloc: Global, values: &[Value<'_>]) -> Result<Reading, AllocError>
+    ensures { IfOk result (λ reading. reading ≡ limited (Array (entries_of (items_view values.now)))) }
+{
+    if values.len() > MOST_ENTRIES_IN {
+        return Ok(Reading::OverLimits);
+    }
+    let entries = read_entries(alloc, values)?;
+    Ok(Reading::Array(Items::from(entries)))
 }
 
 /// Apart, since it holds the scratch's 16 KiB on the stack.

@@ -4,11 +4,11 @@ use Rattle.std.specs.List.{list_all, list_any}
 use Rattle.std.specs.Option.{option_map_or}
 use Rattle.lsp_frames.specs.declared.frame.Frame.{Frame}
 use Rattle.content_streams.specs.Streams.{capped}
-use Rattle.conversation_reading.specs.Strictly.{reading_of}
+use Rattle.conversation_reading.specs.Strictly.{limited_reading}
 use Rattle.conversation_reading.specs.declared.entry.Entry.{Entry}
 use Rattle.conversation_reading.specs.declared.entry.WrittenId.{WrittenId}
 use Rattle.conversation_reading.specs.declared.reading.Reading.{Reading}
-use Rattle.conversation_reading.specs.declared.reading.Reading.TheVariants.{Foreign, NotText, NotJson, TooDeep, HalfPair, Single, Array}
+use Rattle.conversation_reading.specs.declared.reading.Reading.TheVariants.{Foreign, NotText, NotJson, OverLimits, HalfPair, Single, Array}
 use Rattle.conversation_rules.specs.declared.reply.Reply.{Reply}
 use Rattle.conversation_rules.specs.declared.reply.Sight.{Sight}
 use Rattle.conversation_rules.specs.Answers.{reply_of, single_findings, refused_behind_single, behind_single, answers_findings, behind_answers}
@@ -148,7 +148,7 @@ abbrev pub reading_outcome : Protocol → Bool → Message → Pair → Reading 
 reading_outcome protocol is_unfinished message pair Foreign = unreadable message pair rules.Charset Must
 reading_outcome protocol is_unfinished message pair NotText = unreadable message pair (not_json_rule is_unfinished) Must
 reading_outcome protocol is_unfinished message pair NotJson = unreadable message pair (not_json_rule is_unfinished) Must
-reading_outcome protocol is_unfinished message pair TooDeep = unreadable message pair rules.NotJudged Note
+reading_outcome protocol is_unfinished message pair OverLimits = unreadable message pair rules.NotJudged Note
 reading_outcome protocol is_unfinished message pair HalfPair = unreadable message pair rules.NotJudged Note
 reading_outcome protocol is_unfinished message pair (Single entry) = behind_line_end is_unfinished message (single_outcome protocol message entry pair)
 reading_outcome protocol is_unfinished message pair (Array entries) = behind_line_end is_unfinished message (items_outcome protocol message pair entries)
@@ -167,4 +167,4 @@ next_message side place pair = record { side = side; number = next_number pair.o
 
 abbrev pub content_outcome : Protocol → Side → Bool → ℕ × Frame → Pair → Outcome
 content_outcome protocol side is_unfinished placed pair =
-    reading_outcome protocol is_unfinished (next_message side placed.0 pair) (counted pair) (reading_of placed.1.foreign placed.1.content)
+    reading_outcome protocol is_unfinished (next_message side placed.0 pair) (counted pair) (limited_reading placed.1.foreign placed.1.content)

@@ -4,7 +4,7 @@ use Rattle.std.specs.Str.{is_utf8}
 use Rattle.json.specs.Json.{Json}
 use Rattle.json_texts.specs.Texts.{value_of, text_value}
 use Rattle.lsp_frames.specs.declared.frame.Frame.{Frame}
-use Rattle.conversation_reading.specs.Strictly.{json_reading, value_reading, reading_of}
+use Rattle.conversation_reading.specs.Strictly.{json_reading, value_reading, reading_of, limited, limited_reading}
 use Rattle.conversation_reading.specs.declared.reading.Reading.TheVariants.{NotText}
 use Rattle.conversation_reading.specs.declared.reading.TheConstants.{MOST_DEPTH_IN}
 use Rattle.conversation_rules.specs.Contents.{Outcome, content_outcome, reading_outcome, next_message, counted}
@@ -33,8 +33,8 @@ same_reading a b same =
 
 same_outcome : (protocol : Protocol) (side : Side) (is_unfinished : Bool) (a b : ℕ × Frame) (pair : Pair) → HasSameValue a b → content_outcome protocol side is_unfinished a pair ≡ content_outcome protocol side is_unfinished b pair
 same_outcome protocol side is_unfinished a b pair same =
-    ap (λ place. reading_outcome protocol is_unfinished (next_message side place pair) (counted pair) (reading_of a.1.foreign a.1.content)) same.place
-    ∙ ap (reading_outcome protocol is_unfinished (next_message side b.0 pair) (counted pair)) (same_reading a b same)
+    ap (λ place. reading_outcome protocol is_unfinished (next_message side place pair) (counted pair) (limited_reading a.1.foreign a.1.content)) same.place
+    ∙ ap (λ reading. reading_outcome protocol is_unfinished (next_message side b.0 pair) (counted pair) (limited reading)) (same_reading a b same)
 
 pub same_findings : (protocol : Protocol) (side : Side) (is_unfinished : Bool) (contents others : List (ℕ × Frame)) (pair : Pair) → HaveSameValues contents others →
     contents_findings protocol side is_unfinished contents pair ≡ contents_findings protocol side is_unfinished others pair

@@ -17,7 +17,7 @@ use Rattle.conversation_reading.specs.Strictly.{has, there_in, is_object, is_ver
 use Rattle.conversation_reading.specs.declared.entry.Kind.TheVariants.{Answer, BrokenAnswer, Invalid}
 use Rattle.conversation_reading.specs.declared.reading.TheConstants.{MOST_DEPTH_IN}
 use Rattle.conversation_reading.specs.Fronts.{is_json, front_of}
-use Rattle.conversation_reading.specs.declared.reading.Reading.TheVariants.{NotText, NotJson, TooDeep, HalfPair}
+use Rattle.conversation_reading.specs.declared.reading.Reading.TheVariants.{NotText, NotJson, OverLimits, HalfPair}
 use Rattle.json.specs.Find.{get}
 use Rattle.json.specs.Json.{Json, null, boolean, number, string, array, object, no_items, item}
 use Rattle.message_ids.specs.declared.id.Id.{Id}
@@ -26,7 +26,7 @@ use Rattle.judge_laws.specs.Tied.{can_be_read, is_answer_kind, is_call_kind, is_
 
 -- ---- contents
 
-front_is : (b : Bool) → can_be_read (if b then TooDeep else NotJson) ≡ false
+front_is : (b : Bool) → can_be_read (if b then OverLimits else NotJson) ≡ false
 front_is true = refl
 front_is false = refl
 

@@ -10,7 +10,7 @@ use Rattle.conversation_reading.specs.declared.entry.Kind.{Kind}
 use Rattle.conversation_reading.specs.declared.entry.WrittenId.{WrittenId}
 use Rattle.conversation_reading.specs.declared.entry.WrittenId.TheVariants.{Null, Text, Number}
 use Rattle.conversation_reading.specs.declared.reading.Reading.{Reading}
-use Rattle.conversation_reading.specs.declared.reading.Reading.TheVariants.{Foreign, NotText, NotJson, TooDeep, HalfPair, Single, Array}
+use Rattle.conversation_reading.specs.declared.reading.Reading.TheVariants.{Foreign, NotText, NotJson, OverLimits, HalfPair, Single, Array}
 use Rattle.conversation_rules.specs.Entries.{is_both}
 use Rattle.conversation_rules.specs.Owed.{has_twice}
 use Rattle.message_ids.specs.declared.id.Id.{Id}
@@ -32,7 +32,7 @@ abbrev pub IsMessage : Kind → Reading → Type 0
 IsMessage kind Foreign = ⊥
 IsMessage kind NotText = ⊥
 IsMessage kind NotJson = ⊥
-IsMessage kind TooDeep = ⊥
+IsMessage kind OverLimits = ⊥
 IsMessage kind HalfPair = ⊥
 IsMessage kind (Single entry) = IsEntry kind entry
 IsMessage kind (Array entries) = ⊥
@@ -46,7 +46,7 @@ abbrev pub AreMessages : Kind → Reading → Type 0
 AreMessages kind Foreign = ⊥
 AreMessages kind NotText = ⊥
 AreMessages kind NotJson = ⊥
-AreMessages kind TooDeep = ⊥
+AreMessages kind OverLimits = ⊥
 AreMessages kind HalfPair = ⊥
 AreMessages kind (Single entry) = ⊥
 AreMessages kind (Array entries) = AreSome kind entries
@@ -67,7 +67,7 @@ abbrev pub IsKeyed : ℕ → Reading → Type 0
 IsKeyed key Foreign = ⊥
 IsKeyed key NotText = ⊥
 IsKeyed key NotJson = ⊥
-IsKeyed key TooDeep = ⊥
+IsKeyed key OverLimits = ⊥
 IsKeyed key HalfPair = ⊥
 IsKeyed key (Single entry) = HasKey key entry
 IsKeyed key (Array entries) = ⊥
@@ -76,7 +76,7 @@ abbrev pub AreKeyed : ℕ → ℕ → Reading → Type 0
 AreKeyed key count Foreign = ⊥
 AreKeyed key count NotText = ⊥
 AreKeyed key count NotJson = ⊥
-AreKeyed key count TooDeep = ⊥
+AreKeyed key count OverLimits = ⊥
 AreKeyed key count HalfPair = ⊥
 AreKeyed key count (Single entry) = ⊥
 AreKeyed key count (Array entries) = (length entries ≡ count) × HaveKeys key entries
@@ -86,7 +86,7 @@ abbrev pub HasNoId : Reading → Type 0
 HasNoId Foreign = ⊥
 HasNoId NotText = ⊥
 HasNoId NotJson = ⊥
-HasNoId TooDeep = ⊥
+HasNoId OverLimits = ⊥
 HasNoId HalfPair = ⊥
 HasNoId (Single entry) = entry.id ≡ None
 HasNoId (Array entries) = ⊥
@@ -105,7 +105,7 @@ abbrev pub HasId : WrittenId → Reading → Type 0
 HasId id Foreign = ⊥
 HasId id NotText = ⊥
 HasId id NotJson = ⊥
-HasId id TooDeep = ⊥
+HasId id OverLimits = ⊥
 HasId id HalfPair = ⊥
 HasId id (Single entry) = entry.id ≡ Some id
 HasId id (Array entries) = ⊥
@@ -122,7 +122,7 @@ abbrev pub HaveIds : List WrittenId → Reading → Type 0
 HaveIds ids Foreign = ⊥
 HaveIds ids NotText = ⊥
 HaveIds ids NotJson = ⊥
-HaveIds ids TooDeep = ⊥
+HaveIds ids OverLimits = ⊥
 HaveIds ids HalfPair = ⊥
 HaveIds ids (Single entry) = ⊥
 HaveIds ids (Array entries) = EachHasId ids entries
@@ -140,7 +140,7 @@ abbrev pub HasCode : Option (List ℕ) → Reading → Type 0
 HasCode code Foreign = ⊥
 HasCode code NotText = ⊥
 HasCode code NotJson = ⊥
-HasCode code TooDeep = ⊥
+HasCode code OverLimits = ⊥
 HasCode code HalfPair = ⊥
 HasCode code (Single entry) = entry.code ≡ code
 HasCode code (Array entries) = ⊥

@@ -10,7 +10,7 @@ use Rattle.conversation_reading.specs.declared.entry.Faults.{Faults}
 use Rattle.conversation_reading.specs.declared.entry.Kind.{Kind}
 use Rattle.conversation_reading.specs.declared.entry.Kind.TheVariants.{Request, Notification, Answer, BrokenAnswer, Invalid}
 use Rattle.conversation_reading.specs.declared.reading.Reading.{Reading}
-use Rattle.conversation_reading.specs.declared.reading.Reading.TheVariants.{Foreign, NotText, NotJson, TooDeep, HalfPair, Single, Array}
+use Rattle.conversation_reading.specs.declared.reading.Reading.TheVariants.{Foreign, NotText, NotJson, OverLimits, HalfPair, Single, Array}
 use Rattle.json.specs.Find.{get}
 use Rattle.json.specs.Json.{Json}
 
@@ -20,7 +20,7 @@ abbrev pub can_be_read : Reading → Bool
 can_be_read Foreign = false
 can_be_read NotText = false
 can_be_read NotJson = false
-can_be_read TooDeep = false
+can_be_read OverLimits = false
 can_be_read HalfPair = false
 can_be_read (Single entry) = true
 can_be_read (Array entries) = true

@@ -5,7 +5,7 @@ use Rattle.std.specs.Option.{option_map_or}
 use Rattle.lsp_frames.specs.declared.frame.Frame.{Frame}
 use Rattle.content_streams.specs.Streams.{Stream, placed_contents}
 use Rattle.content_streams.specs.declared.framing.Framing.{Framing}
-use Rattle.conversation_reading.specs.Strictly.{reading_of}
+use Rattle.conversation_reading.specs.Strictly.{limited_reading}
 use Rattle.conversation_reading.specs.declared.entry.Entry.{Entry}
 use Rattle.conversation_reading.specs.First.{First}
 use Rattle.conversation_reading.specs.declared.entry.Kind.{Kind}
@@ -13,7 +13,7 @@ use Rattle.conversation_reading.specs.declared.entry.Kind.TheVariants.{Request, 
 use Rattle.conversation_reading.specs.declared.entry.WrittenId.{WrittenId}
 use Rattle.conversation_reading.specs.declared.entry.WrittenId.TheVariants.{Null, Number}
 use Rattle.conversation_reading.specs.declared.reading.Reading.{Reading}
-use Rattle.conversation_reading.specs.declared.reading.Reading.TheVariants.{Foreign, NotText, NotJson, TooDeep, HalfPair, Single, Array}
+use Rattle.conversation_reading.specs.declared.reading.Reading.TheVariants.{Foreign, NotText, NotJson, OverLimits, HalfPair, Single, Array}
 use Rattle.conversation_rules.specs.Answers.{reply_of, behind_single}
 use Rattle.conversation_rules.specs.Contents.{content_outcome, reading_outcome, next_message, counted, sight_of, opened, shut, have_huge, are_answers, replies_in, reply_ids, behind_entries}
 use Rattle.conversation_rules.specs.Dues.{is_asked, owed_more}
@@ -63,14 +63,14 @@ abbrev pub ReadingUp : ℕ → ℕ → Reading → Type 0
 ReadingUp b e Foreign = ⊤
 ReadingUp b e NotText = ⊤
 ReadingUp b e NotJson = ⊤
-ReadingUp b e TooDeep = ⊤
+ReadingUp b e OverLimits = b ≤ e
 ReadingUp b e HalfPair = ⊤
 ReadingUp b e (Single entry) = EntryUp b e entry
 ReadingUp b e (Array entries) = EntriesUp b e entries
 
 abbrev pub ContentsUp : ℕ → List (ℕ × Frame) → Type 0
 ContentsUp b [] = ⊤
-ContentsUp b (placed ∷ contents) = (e : ℕ) × ReadingUp b e (reading_of placed.1.foreign placed.1.content) × ContentsUp e contents
+ContentsUp b (placed ∷ contents) = (e : ℕ) × ReadingUp b e (limited_reading placed.1.foreign placed.1.content) × ContentsUp e contents
 
 -- ---- what is kept of the side
 
@@ -224,7 +224,7 @@ module _ (side : Side) (those : Rule → Bool) (fair : IsFair those) (not_owed :
     our_reading is_unfinished b e pair Foreign well up below = absurd well
     our_reading is_unfinished b e pair NotText well up below = absurd well
     our_reading is_unfinished b e pair NotJson well up below = absurd well
-    our_reading is_unfinished b e pair TooDeep well up below = tt
+    our_reading is_unfinished b e pair OverLimits well up below = tt
     our_reading is_unfinished b e pair HalfPair well up below = tt
     our_reading is_unfinished b e pair (Single entry) said up below = (
       faultless P message entry said.faultless said.one_kind said.once,
@@ -241,7 +241,9 @@ module _ (side : Side) (those : Rule → Bool) (fair : IsFair those) (not_owed :
     our_below is_unfinished b e pair Foreign well up below = absurd well
     our_below is_unfinished b e pair NotText well up below = absurd well
     our_below is_unfinished b e pair NotJson well up below = absurd well
-    our_below is_unfinished b e pair TooDeep well up below = absurd well
+    our_below is_unfinished b e pair OverLimits well up below =
+        let later = below_later b e up pair.own below in
+        record { runs = later.runs; owed = all-append _ pair.own.owed _ later.owed (tt, tt) }
     our_below is_unfinished b e pair HalfPair well up below = absurd well
     our_below is_unfinished b e pair (Single entry) said up below =
         let own = opened message false entry.has_huge pair.own in
@@ -257,7 +259,7 @@ module _ (side : Side) (those : Rule → Bool) (fair : IsFair those) (not_owed :
   their_below is_unfinished b message pair Foreign is = record { runs = is.runs; owed = is.owed }
   their_below is_unfinished b message pair NotText is = record { runs = is.runs; owed = is.owed }
   their_below is_unfinished b message pair NotJson is = record { runs = is.runs; owed = is.owed }
-  their_below is_unfinished b message pair TooDeep is = record { runs = is.runs; owed = is.owed }
+  their_below is_unfinished b message pair OverLimits is = record { runs = is.runs; owed = is.owed }
   their_below is_unfinished b message pair HalfPair is = record { runs = is.runs; owed = is.owed }
   their_below is_unfinished b message pair (Single entry) is = record { runs = is.runs; owed = from (is_answer entry.kind) }
     where
@@ -285,7 +287,7 @@ module _ (side : Side) (those : Rule → Bool) (fair : IsFair those) (not_owed :
       → Each P (content_outcome protocol side is_unfinished placed pair).findings × Holds rest (content_outcome protocol side is_unfinished placed pair).pair
   our_content is_unfinished placed rest pair holds =
       let message = next_message side placed.0 pair in
-      let reading = reading_of placed.1.foreign placed.1.content in
+      let reading = limited_reading placed.1.foreign placed.1.content in
       let below = counted_below holds.from pair holds.below in (
         reading_each P message (own_hosts side those message refl fair) protocol is_unfinished (counted pair) reading
             (our_reading message refl is_unfinished holds.from holds.up.0 (counted pair) reading holds.well.0 holds.up.1 below),
@@ -302,7 +304,7 @@ module _ (side : Side) (those : Rule → Bool) (fair : IsFair those) (not_owed :
     well = holds.well;
     from = holds.from;
     up = holds.up;
-    below = their_below is_unfinished holds.from (next_message (other side) placed.0 (swap pair)) (counted (swap pair)) (reading_of placed.1.foreign placed.1.content) holds.below;
+    below = their_below is_unfinished holds.from (next_message (other side) placed.0 (swap pair)) (counted (swap pair)) (limited_reading placed.1.foreign placed.1.content) holds.below;
   }
 
   again_keeps : (final : Stream) → ((s : Stream) → Later s final → EndsFairly those s) → Keeps protocol side P Holds final

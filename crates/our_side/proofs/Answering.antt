@@ -10,7 +10,7 @@ use Rattle.conversation_reading.specs.declared.entry.Kind.TheVariants.{Request, 
 use Rattle.conversation_reading.specs.declared.entry.WrittenId.{WrittenId}
 use Rattle.conversation_reading.specs.declared.entry.WrittenId.TheVariants.{Null, Text, Number}
 use Rattle.conversation_reading.specs.declared.reading.Reading.{Reading}
-use Rattle.conversation_reading.specs.declared.reading.Reading.TheVariants.{Foreign, NotText, NotJson, TooDeep, HalfPair, Single, Array}
+use Rattle.conversation_reading.specs.declared.reading.Reading.TheVariants.{Foreign, NotText, NotJson, OverLimits, HalfPair, Single, Array}
 use Rattle.conversation_rules.specs.Amounts.{same_id, is_null, is_odd, is_plain}
 use Rattle.conversation_rules.specs.Answers.{has_code, may_refuse, target_of, target_of_null, rest_of, single_findings, single_findings_of, behind_single, behind_found, reply_of, answers_findings, answers_findings_of, behind_answers, behind_answers_of, batch_rest}
 use Rattle.conversation_rules.specs.Contents.{reading_outcome, sight_of, opened, have_huge, are_answers, replies_in, reply_ids, single_other, single_answer_findings, behind_entries}
@@ -240,7 +240,7 @@ pub ask_content : (protocol : Protocol) (is_unfinished : Bool) (message : Messag
 ask_content protocol is_unfinished message pair Foreign orderly formed = unreadable_asked pair.own.owed message.number message.offset Foreign (λ q. refl) orderly
 ask_content protocol is_unfinished message pair NotText orderly formed = unreadable_asked pair.own.owed message.number message.offset NotText (λ q. refl) orderly
 ask_content protocol is_unfinished message pair NotJson orderly formed = unreadable_asked pair.own.owed message.number message.offset NotJson (λ q. refl) orderly
-ask_content protocol is_unfinished message pair TooDeep orderly formed = unreadable_asked pair.own.owed message.number message.offset TooDeep (λ q. refl) orderly
+ask_content protocol is_unfinished message pair OverLimits orderly formed = unreadable_asked pair.own.owed message.number message.offset OverLimits (λ q. refl) orderly
 ask_content protocol is_unfinished message pair HalfPair orderly formed = unreadable_asked pair.own.owed message.number message.offset HalfPair (λ q. refl) orderly
 ask_content protocol is_unfinished message pair (Single entry) orderly formed =
     let owed = pair.own.owed in
@@ -719,7 +719,7 @@ module _ (side : Side) where
     our_may is_unfinished pair Foreign orderly says expects = absurd says
     our_may is_unfinished pair NotText orderly says expects = absurd says
     our_may is_unfinished pair NotJson orderly says expects = absurd says
-    our_may is_unfinished pair TooDeep orderly says expects = tt
+    our_may is_unfinished pair OverLimits orderly says expects = tt
     our_may is_unfinished pair HalfPair orderly says expects = tt
     our_may is_unfinished pair (Single entry) orderly says expects =
         (any_faults entry, any_ids 0 false (opened message false entry.has_huge pair.own) entry, said_each pair entry orderly says expects)
@@ -732,7 +732,7 @@ module _ (side : Side) where
     our_behind is_unfinished pair Foreign orderly says expects = absurd says
     our_behind is_unfinished pair NotText orderly says expects = absurd says
     our_behind is_unfinished pair NotJson orderly says expects = absurd says
-    our_behind is_unfinished pair TooDeep orderly says expects = absurd says
+    our_behind is_unfinished pair OverLimits orderly says expects = record { orderly_after = orderly; enough = λ q can. omega arith }
     our_behind is_unfinished pair HalfPair orderly says expects = absurd says
     our_behind is_unfinished pair (Single entry) orderly says expects = said_behind pair entry orderly says expects
     our_behind is_unfinished pair (Array []) orderly says expects = record { orderly_after = orderly; enough = λ q can. omega arith }

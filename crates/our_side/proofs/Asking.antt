@@ -21,10 +21,10 @@ use Rattle.connection_messages.specs.declared.unit.Unit.{Unit}
 use Rattle.connection_messages.specs.declared.unit.Unit.TheVariants as units
 use Rattle.conversation_reading.specs.Fronts.{is_json, front_of}
 use Rattle.conversation_reading.specs.Strictly as strict
-use Rattle.conversation_reading.specs.Strictly.{unreadable_with, json_reading, value_reading, reading_of}
+use Rattle.conversation_reading.specs.Strictly.{unreadable_with, json_reading, value_reading, reading_of, limited_reading}
 use Rattle.conversation_reading.specs.declared.entry.WrittenId.TheVariants.{Null}
 use Rattle.conversation_reading.specs.declared.reading.Reading.{Reading}
-use Rattle.conversation_reading.specs.declared.reading.Reading.TheVariants.{Foreign, NotText, NotJson, TooDeep, HalfPair, Single, Array}
+use Rattle.conversation_reading.specs.declared.reading.Reading.TheVariants.{Foreign, NotText, NotJson, OverLimits, HalfPair, Single, Array}
 use Rattle.conversation_reading.specs.declared.reading.TheConstants.{MOST_DEPTH_IN}
 use Rattle.conversation_rules.specs.Amounts.{same_id, is_null}
 use Rattle.conversation_rules.specs.Entries.{is_between}
@@ -41,6 +41,7 @@ use Rattle.our_side.proofs.Forms.{both_whole}
 use Rattle.our_side.proofs.Ids.{not_named}
 use Rattle.our_side.proofs.Plain.{below_code}
 use Rattle.our_side.proofs.Tied.{entry_tied, items_tied, as_many}
+use Rattle.our_side.proofs.Limited.{taken_within}
 
 -- ---- which answers count, by what is counted
 
@@ -143,8 +144,8 @@ batch_few unnamed es = omega arith
 unread_read : (settings : Chosen) (reading : Reading) → ((q : Question) → asked_by q reading ≡ asked_from q false true []) → ReadAs settings reading units.Unreadable
 unread_read settings reading is = record { few = λ q can. (let most = unread_few q can in let same = is q in omega (arith, most, same)); whole = tt }
 
-front_read : (settings : Chosen) (b : Bool) → ReadAs settings (if b then TooDeep else NotJson) units.Unreadable
-front_read settings true = unread_read settings TooDeep (λ q. refl)
+front_read : (settings : Chosen) (b : Bool) → ReadAs settings (if b then OverLimits else NotJson) units.Unreadable
+front_read settings true = unread_read settings OverLimits (λ q. refl)
 front_read settings false = unread_read settings NotJson (λ q. refl)
 
 half_read : (settings : Chosen) (b : Bool) → ReadAs settings (if b then HalfPair else NotJson) units.Unreadable
@@ -212,6 +213,10 @@ module _ (settings : Chosen) where
   content_read true content taken = unread_read settings Foreign (λ q. refl)
   content_read false content taken = text_read content taken
 
+  within_read : (foreign : Bool) (content : List ℕ) → IsTakenWhole settings (reading_of foreign content) → ReadAs settings (limited_reading foreign content) (unit_of rules foreign content)
+  within_read foreign content taken =
+      subst (λ reading. ReadAs settings reading (unit_of rules foreign content)) (sym (taken_within settings (reading_of foreign content) taken)) (content_read foreign content taken)
+
 -- ---- contents, one behind another
 
 abbrev pub TakenEach : Chosen → List Frame → Type 0
@@ -220,7 +225,7 @@ TakenEach settings (frame ∷ frames) = IsTakenWhole settings (reading_of frame.
 
 abbrev pub asked_each : Question → List Frame → ℕ
 asked_each q [] = 0
-asked_each q (frame ∷ frames) = asked_by q (reading_of frame.foreign frame.content) + asked_each q frames
+asked_each q (frame ∷ frames) = asked_by q (limited_reading frame.foreign frame.content) + asked_each q frames
 
 pub each_taken : (settings : Chosen) (placed : List (ℕ × Frame)) → AllTakenWhole settings placed → TakenEach settings (map (λ placed. placed.1) placed)
 each_taken settings [] taken = tt
@@ -228,7 +233,7 @@ each_taken settings (p ∷ placed) taken = (taken.0, each_taken settings placed 
 
 pub each_asked : (q : Question) (placed : List (ℕ × Frame)) → asked_each q (map (λ placed. placed.1) placed) ≡ asked_in q placed
 each_asked q [] = refl
-each_asked q (p ∷ placed) = ap (λ n. asked_by q (reading_of p.1.foreign p.1.content) + n) (each_asked q placed)
+each_asked q (p ∷ placed) = ap (λ n. asked_by q (limited_reading p.1.foreign p.1.content) + n) (each_asked q placed)
 
 pub first_taken : (settings : Chosen) (n : ℕ) (frames : List Frame) → TakenEach settings frames → TakenEach settings (take n frames)
 first_taken settings zero frames taken = tt
@@ -244,12 +249,12 @@ module _ (settings : Chosen) where
   pub units_whole : (frames : List Frame) → TakenEach settings frames → AreAnsweredWhole settings.cancels (map (read (rules_of settings)) frames)
   units_whole [] taken = tt
   units_whole (frame ∷ frames) taken =
-      both_whole settings.cancels (read (rules_of settings) frame) (map (read (rules_of settings)) frames) (content_read settings frame.foreign frame.content taken.0).whole (units_whole frames taken.1)
+      both_whole settings.cancels (read (rules_of settings) frame) (map (read (rules_of settings)) frames) (within_read settings frame.foreign frame.content taken.0).whole (units_whole frames taken.1)
 
   pub units_few : (frames : List Frame) (q : Question) → CanBeAsked q → TakenEach settings frames
       → total (came_alone (counts q) (may_count q)) (map (read (rules_of settings)) frames) + total (came_together (counts_all q)) (map (read (rules_of settings)) frames) ≤ asked_each q frames
   units_few [] q can taken = omega arith
   units_few (frame ∷ frames) q can taken =
-      let first = (content_read settings frame.foreign frame.content taken.0).few q can in
+      let first = (within_read settings frame.foreign frame.content taken.0).few q can in
       let rest = units_few frames q can taken.1 in
       omega (arith, first, rest)

@@ -10,12 +10,12 @@ use Rattle.content_streams.specs.declared.ending.StreamEnd.{StreamEnd}
 use Rattle.content_streams.specs.declared.ending.StreamEnd.TheVariants as ends
 use Rattle.content_streams.specs.declared.framing.Framing.{Framing}
 use Rattle.conversation_reading.specs.Numbers.{is_whole}
-use Rattle.conversation_reading.specs.Strictly.{has_fault, reading_of}
+use Rattle.conversation_reading.specs.Strictly.{has_fault, limited_reading}
 use Rattle.conversation_reading.specs.declared.entry.Entry.{Entry}
 use Rattle.conversation_reading.specs.declared.entry.WrittenId.{WrittenId}
 use Rattle.conversation_reading.specs.declared.entry.WrittenId.TheVariants.{Null, Text, Number}
 use Rattle.conversation_reading.specs.declared.reading.Reading.{Reading}
-use Rattle.conversation_reading.specs.declared.reading.Reading.TheVariants.{Foreign, NotText, NotJson, TooDeep, HalfPair, Single, Array}
+use Rattle.conversation_reading.specs.declared.reading.Reading.TheVariants.{Foreign, NotText, NotJson, OverLimits, HalfPair, Single, Array}
 use Rattle.conversation_rules.specs.Amounts.{is_plain, is_null}
 use Rattle.conversation_rules.specs.Answers.{reply_of}
 use Rattle.conversation_rules.specs.Contents.{content_outcome, next_message, counted, sight_of, opened, have_huge, not_json_rule, are_answers, replies_in, reply_ids}
@@ -134,7 +134,7 @@ module _ (P : Finding → Type 0) (message : Message) (may : (rule : Rule) → M
   their_reading protocol is_unfinished pair Foreign = may rules.Charset
   their_reading protocol is_unfinished pair NotText = may (not_json_rule is_unfinished)
   their_reading protocol is_unfinished pair NotJson = may (not_json_rule is_unfinished)
-  their_reading protocol is_unfinished pair TooDeep = tt
+  their_reading protocol is_unfinished pair OverLimits = tt
   their_reading protocol is_unfinished pair HalfPair = tt
   their_reading protocol is_unfinished pair (Single entry) = (
     their_faulty P message may entry,
@@ -152,8 +152,8 @@ pub their_content : (side : Side) (those : Rule → Bool) (protocol : Protocol) 
 their_content side those protocol is_unfinished placed pair =
     let message = next_message (other side) placed.0 pair in
     let may = their_may side those message refl in
-    reading_each (Silent side those) message (their_hosts (Silent side those) message may) protocol is_unfinished (counted pair) (reading_of placed.1.foreign placed.1.content)
-    (their_reading (Silent side those) message may protocol is_unfinished (counted pair) (reading_of placed.1.foreign placed.1.content))
+    reading_each (Silent side those) message (their_hosts (Silent side those) message may) protocol is_unfinished (counted pair) (limited_reading placed.1.foreign placed.1.content)
+    (their_reading (Silent side those) message may protocol is_unfinished (counted pair) (limited_reading placed.1.foreign placed.1.content))
 
 -- ---- and what else is told of it
 
@@ -267,7 +267,7 @@ module _ (P : Finding → Type 0) (protocol : Protocol) (message : Message) (at 
 
 abbrev pub AllWell : List (ℕ × Frame) → Type 0
 AllWell [] = ⊤
-AllWell (placed ∷ contents) = IsWell (reading_of placed.1.foreign placed.1.content) × AllWell contents
+AllWell (placed ∷ contents) = IsWell (limited_reading placed.1.foreign placed.1.content) × AllWell contents
 
 module _ (side : Side) (those : Rule → Bool) (fair : IsFair those) (again : those rules.IdAgain ≡ false) (not_owed : those rules.NotOwed ≡ false) (not_as_array : those rules.NotAsArray ≡ false) (protocol : Protocol) where
   abbrev P : Finding → Type 0
@@ -295,7 +295,7 @@ module _ (side : Side) (those : Rule → Bool) (fair : IsFair those) (again : th
     our_reading is_unfinished pair Foreign well = absurd well
     our_reading is_unfinished pair NotText well = absurd well
     our_reading is_unfinished pair NotJson well = absurd well
-    our_reading is_unfinished pair TooDeep well = tt
+    our_reading is_unfinished pair OverLimits well = tt
     our_reading is_unfinished pair HalfPair well = tt
     our_reading is_unfinished pair (Single entry) said = (
       faultless P message entry said.faultless said.one_kind said.once,
@@ -308,11 +308,11 @@ module _ (side : Side) (those : Rule → Bool) (fair : IsFair those) (again : th
       answers_each P message our_answering protocol (sight_of pair) (are_answers (entry ∷ entries)) (replies_in protocol pair.other.owed 1 (entry ∷ entries)) (reply_ids (entry ∷ entries)) pair.other.owed,
     )
 
-  our_content : (is_unfinished : Bool) (placed : ℕ × Frame) (pair : Pair) → IsWell (reading_of placed.1.foreign placed.1.content) → Each P (content_outcome protocol side is_unfinished placed pair).findings
+  our_content : (is_unfinished : Bool) (placed : ℕ × Frame) (pair : Pair) → IsWell (limited_reading placed.1.foreign placed.1.content) → Each P (content_outcome protocol side is_unfinished placed pair).findings
   our_content is_unfinished placed pair well =
       let message = next_message side placed.0 pair in
-      reading_each P message (own_hosts side those message refl fair) protocol is_unfinished (counted pair) (reading_of placed.1.foreign placed.1.content)
-      (our_reading message refl is_unfinished (counted pair) (reading_of placed.1.foreign placed.1.content) well)
+      reading_each P message (own_hosts side those message refl fair) protocol is_unfinished (counted pair) (limited_reading placed.1.foreign placed.1.content)
+      (our_reading message refl is_unfinished (counted pair) (limited_reading placed.1.foreign placed.1.content) well)
 
 -- ---- all of it
 

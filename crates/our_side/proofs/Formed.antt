@@ -25,12 +25,12 @@ use Rattle.connection_messages.proofs.Enveloped.{member_numbers}
 use Rattle.connection_messages.specs.Envelope.{MemberHasNumbers}
 use Rattle.conversation_reading.specs.Fronts.{is_json, front_of}
 use Rattle.conversation_reading.specs.Numbers.{parts_at, is_mark, is_point, number_of, without_minus}
-use Rattle.conversation_reading.specs.Strictly.{written_id, entry_of, entries_of, value_reading, unreadable_with, json_reading, reading_of}
+use Rattle.conversation_reading.specs.Strictly.{written_id, entry_of, entries_of, value_reading, unreadable_with, json_reading, reading_of, limited_reading}
 use Rattle.conversation_reading.specs.declared.entry.Entry.{Entry}
 use Rattle.conversation_reading.specs.declared.entry.WrittenId.{WrittenId}
 use Rattle.conversation_reading.specs.declared.entry.WrittenId.TheVariants.{Null, Text, Number}
 use Rattle.conversation_reading.specs.declared.reading.Reading.{Reading}
-use Rattle.conversation_reading.specs.declared.reading.Reading.TheVariants.{NotText, NotJson, TooDeep, HalfPair, Single, Array}
+use Rattle.conversation_reading.specs.declared.reading.Reading.TheVariants.{NotText, NotJson, OverLimits, HalfPair, Single, Array}
 use Rattle.conversation_reading.specs.declared.reading.TheConstants.{MOST_DEPTH_IN}
 use Rattle.conversation_rules.specs.Amounts.{amount_of, amount_in, amount_with, fits_64_bits, is_plain}
 use Rattle.our_side.specs.Asked.{IsWhole}
@@ -38,6 +38,7 @@ use Rattle.our_side.proofs.Below.{AllOf, all-drop}
 use Rattle.our_side.proofs.Matched.{first_place, next_place}
 use Rattle.our_side.proofs.Plain.{after_same}
 use Rattle.connection.proofs.ReadIds.{last_is}
+use Rattle.our_side.proofs.Limited.{limited_keeps}
 
 -- ---- no byte passes a test
 
@@ -238,7 +239,7 @@ value_formed (json.string s) numbers = entry_formed (json.string s) numbers
 value_formed (array js) numbers = entries_formed js numbers
 value_formed (object ms) numbers = entry_formed (object ms) numbers
 
-front_formed : (b : Bool) → IsFormedReading (if b then TooDeep else NotJson)
+front_formed : (b : Bool) → IsFormedReading (if b then OverLimits else NotJson)
 front_formed true = tt
 front_formed false = tt
 
@@ -262,6 +263,9 @@ text_formed content = by (is_utf8 content)
     by true = json_formed content (text_value MOST_DEPTH_IN content) (has_numbers content)
     by false = tt
 
-pub reading_formed : (foreign : Bool) (content : List ℕ) → IsFormedReading (reading_of foreign content)
-reading_formed true content = tt
-reading_formed false content = text_formed content
+content_formed : (foreign : Bool) (content : List ℕ) → IsFormedReading (reading_of foreign content)
+content_formed true content = tt
+content_formed false content = text_formed content
+
+pub reading_formed : (foreign : Bool) (content : List ℕ) → IsFormedReading (limited_reading foreign content)
+reading_formed foreign content = limited_keeps IsFormedReading tt (reading_of foreign content) (content_formed foreign content)

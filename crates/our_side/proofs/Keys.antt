@@ -19,12 +19,12 @@ use Rattle.connection_history.specs.Items.{answers_at}
 use Rattle.connection_history.specs.Stream.{entries_in, calls_in}
 use Rattle.connection_history.specs.Written.{places_in}
 use Rattle.content_streams.specs.Streams.{plain}
-use Rattle.conversation_reading.specs.Strictly.{reading_of}
+use Rattle.conversation_reading.specs.Strictly.{reading_of, limited, limited_reading}
 use Rattle.conversation_reading.specs.declared.entry.Entry.{Entry}
 use Rattle.conversation_reading.specs.declared.entry.Kind.{Kind}
 use Rattle.conversation_reading.specs.declared.entry.Kind.TheVariants.{Request, Notification, Answer}
 use Rattle.conversation_reading.specs.declared.reading.Reading.{Reading}
-use Rattle.conversation_reading.specs.declared.reading.Reading.TheVariants.{Foreign, NotText, NotJson, TooDeep, HalfPair, Single, Array}
+use Rattle.conversation_reading.specs.declared.reading.Reading.TheVariants.{Foreign, NotText, NotJson, OverLimits, HalfPair, Single, Array}
 use Rattle.conversation_rules.specs.Entries.{is_request}
 use Rattle.judge_laws.specs.Messages.{IsEntry, AreEntries, IsMessage, AreMessages, HasKey, HaveKeys, IsKeyed, AreKeyed}
 use Rattle.judge_laws.proofs.Batches.{calls_keyed, answers_messages}
@@ -32,6 +32,7 @@ use Rattle.judge_laws.proofs.Failures.{answer_message}
 use Rattle.judge_laws.proofs.SaidStrictly.{call_keyed, notice_message, withdrawal_message}
 use Rattle.our_side.proofs.Again.{EntryUp, EntriesUp, ReadingUp, ContentsUp}
 use Rattle.connection.proofs.SaidSound.{AreSound}
+use Rattle.our_side.proofs.Limited.{limited_keeps}
 
 -- ---- the keys of messages
 
@@ -164,7 +165,7 @@ keys_up order history = (all_up order history).0
 
 abbrev pub FramesUp : ℕ → List Frame → Type 0
 FramesUp b [] = ⊤
-FramesUp b (frame ∷ frames) = (e : ℕ) × ReadingUp b e (reading_of frame.foreign frame.content) × FramesUp e frames
+FramesUp b (frame ∷ frames) = (e : ℕ) × ReadingUp b e (limited_reading frame.foreign frame.content) × FramesUp e frames
 
 entry_up : (b key : ℕ) (entry : Entry) → b ≤ key → key < 2 ^ 64 → HasKey key entry → EntryUp b (key + 1) entry
 entry_up b key entry le small is = record { rises = omega (arith, le); key = λ request. record { key = key; above = le; below = omega arith; small = small; is = is } }
@@ -180,7 +181,7 @@ call_up : (b key : ℕ) (reading : Reading) → b ≤ key → key < 2 ^ 64 → I
 call_up b key Foreign le small is = tt
 call_up b key NotText le small is = tt
 call_up b key NotJson le small is = tt
-call_up b key TooDeep le small is = tt
+call_up b key OverLimits le small is = absurd is
 call_up b key HalfPair le small is = tt
 call_up b key (Single entry) le small is = entry_up b key entry le small is
 call_up b key (Array entries) le small is = absurd is
@@ -189,7 +190,7 @@ calls_up : (b key count : ℕ) (reading : Reading) → b ≤ key → key + count
 calls_up b key count Foreign le few are = tt
 calls_up b key count NotText le few are = tt
 calls_up b key count NotJson le few are = tt
-calls_up b key count TooDeep le few are = tt
+calls_up b key count OverLimits le few are = absurd are
 calls_up b key count HalfPair le few are = tt
 calls_up b key count (Single entry) le few are = absurd are
 calls_up b key count (Array entries) le few are =
@@ -214,7 +215,7 @@ message_up : (b : ℕ) (kind : Kind) (reading : Reading) → is_request kind ≡
 message_up b kind Foreign other is = tt
 message_up b kind NotText other is = tt
 message_up b kind NotJson other is = tt
-message_up b kind TooDeep other is = tt
+message_up b kind OverLimits other is = absurd is
 message_up b kind HalfPair other is = tt
 message_up b kind (Single entry) other is = other_up b kind entry other is
 message_up b kind (Array entries) other is = absurd is
@@ -223,29 +224,42 @@ messages_up : (b : ℕ) (kind : Kind) (reading : Reading) → is_request kind �
 messages_up b kind Foreign other are = tt
 messages_up b kind NotText other are = tt
 messages_up b kind NotJson other are = tt
-messages_up b kind TooDeep other are = tt
+messages_up b kind OverLimits other are = absurd are
 messages_up b kind HalfPair other are = tt
 messages_up b kind (Single entry) other are = absurd are
 messages_up b kind (Array []) other are = absurd are
 messages_up b kind (Array (entry ∷ entries)) other are = others_up b kind (entry ∷ entries) other are
 
+entries_rise : (b e : ℕ) (entries : List Entry) → EntriesUp b e entries → b ≤ e
+entries_rise b e [] up = up
+entries_rise b e (entry ∷ entries) up = let first = up.1.rises in let rest = entries_rise up.0 e entries up.2 in omega (arith, first, rest)
+
+limited_up : (b e : ℕ) (reading : Reading) → ReadingUp b e reading → ReadingUp b e (limited reading)
+limited_up b e Foreign up = tt
+limited_up b e NotText up = tt
+limited_up b e NotJson up = tt
+limited_up b e OverLimits up = up
+limited_up b e HalfPair up = tt
+limited_up b e (Single entry) up = up
+limited_up b e (Array entries) up = limited_keeps (λ reading. ReadingUp b e reading) (entries_rise b e entries up) (Array entries) up
+
 pub frames_up : (cancels : Option Cancels) (ms : List Message) (b n : ℕ) → AreSound cancels ms → KeysUp b ms → FramesUp b (map plain (take n (map text_of ms)))
 frames_up cancels ms b zero sound up = tt
 frames_up cancels [] b (suc n) sound up = tt
 frames_up cancels (call key o ∷ ms) b (suc n) sound up =
-    (key + 1, call_up b key (reading_of false (call_text key o)) up.0 sound.0.0 (call_keyed key o sound.0.0 sound.0.1), frames_up cancels ms (key + 1) n sound.1 up.1)
+    (key + 1, limited_up b (key + 1) (reading_of false (call_text key o)) (call_up b key (reading_of false (call_text key o)) up.0 sound.0.0 (call_keyed key o sound.0.0 sound.0.1)), frames_up cancels ms (key + 1) n sound.1 up.1)
 frames_up cancels (calls key [] ∷ ms) b (suc n) sound up = absurd sound.0
 frames_up cancels (calls key (o ∷ os) ∷ ms) b (suc n) sound up = (
   key + length (o ∷ os),
-  calls_up b key (length (o ∷ os)) (reading_of false (calls_text key (o ∷ os))) up.0 sound.0.0 (calls_keyed key o os sound.0.0 sound.0.1),
+  limited_up b (key + length (o ∷ os)) (reading_of false (calls_text key (o ∷ os))) (calls_up b key (length (o ∷ os)) (reading_of false (calls_text key (o ∷ os))) up.0 sound.0.0 (calls_keyed key o os sound.0.0 sound.0.1)),
   frames_up cancels ms (key + length (o ∷ os)) n sound.1 up.1,
 )
-frames_up cancels (notice o ∷ ms) b (suc n) sound up = (b, message_up b Notification (reading_of false (notice_text o)) refl (notice_message o sound.0), frames_up cancels ms b n sound.1 up)
-frames_up cancels (withdrawal by key ∷ ms) b (suc n) sound up = (b, message_up b Notification (reading_of false (withdrawal_text by key)) refl (withdrawal_message by key sound.0.0), frames_up cancels ms b n sound.1 up)
-frames_up cancels (answer id a ∷ ms) b (suc n) sound up = (b, message_up b Answer (reading_of false (answer_text id a)) refl (answer_message id a sound.0.0 sound.0.1), frames_up cancels ms b n sound.1 up)
+frames_up cancels (notice o ∷ ms) b (suc n) sound up = (b, limited_up b b (reading_of false (notice_text o)) (message_up b Notification (reading_of false (notice_text o)) refl (notice_message o sound.0)), frames_up cancels ms b n sound.1 up)
+frames_up cancels (withdrawal by key ∷ ms) b (suc n) sound up = (b, limited_up b b (reading_of false (withdrawal_text by key)) (message_up b Notification (reading_of false (withdrawal_text by key)) refl (withdrawal_message by key sound.0.0)), frames_up cancels ms b n sound.1 up)
+frames_up cancels (answer id a ∷ ms) b (suc n) sound up = (b, limited_up b b (reading_of false (answer_text id a)) (message_up b Answer (reading_of false (answer_text id a)) refl (answer_message id a sound.0.0 sound.0.1)), frames_up cancels ms b n sound.1 up)
 frames_up cancels (answers [] ∷ ms) b (suc n) sound up = absurd sound.0
 frames_up cancels (answers (a ∷ more) ∷ ms) b (suc n) sound up =
-    (b, messages_up b Answer (reading_of false (batch_text (answer_texts (a ∷ more)))) refl (answers_messages a more sound.0), frames_up cancels ms b n sound.1 up)
+    (b, limited_up b b (reading_of false (batch_text (answer_texts (a ∷ more)))) (messages_up b Answer (reading_of false (batch_text (answer_texts (a ∷ more)))) refl (answers_messages a more sound.0)), frames_up cancels ms b n sound.1 up)
 
 pub placed_up : (b : ℕ) (placed : List (ℕ × Frame)) → FramesUp b (map (λ placed. placed.1) placed) → ContentsUp b placed
 placed_up b [] up = tt

@@ -12,6 +12,7 @@ mod Found
 mod Ids
 mod InTime
 mod Keys
+mod Limited
 mod Matched
 mod Open
 mod Placing

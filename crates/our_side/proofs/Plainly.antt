@@ -7,7 +7,7 @@ use Rattle.lsp_frames.specs.declared.frame.FrameFault.{FrameFault}
 use Rattle.lsp_frames.specs.declared.frame.FrameFault.TheVariants.{BadHead, BadLength, TwoLengths, TooLarge, NoLength, HeadTooLong, Truncated, LongLength}
 use Rattle.content_streams.specs.Streams.{Stream, placed_contents}
 use Rattle.content_streams.specs.declared.framing.Framing.{Framing}
-use Rattle.conversation_reading.specs.Strictly.{reading_of}
+use Rattle.conversation_reading.specs.Strictly.{limited_reading}
 use Rattle.conversation_rules.specs.Contents.{content_outcome, next_message, counted}
 use Rattle.conversation_rules.specs.Judging.{Seen, State, stream_of, pair_of, new_state, state_of, state_from, findings_of, fault_rule}
 use Rattle.conversation_rules.specs.Speakers.{Pair}
@@ -73,7 +73,7 @@ module _ (protocol : Protocol) (side : Side) (mine yours : Stream) where
       → Each P (content_outcome protocol side is_unfinished placed pair).findings × Holds rest theirs (content_outcome protocol side is_unfinished placed pair).pair
   ours is_unfinished placed rest theirs pair timely holds =
       let message = next_message side placed.0 pair in
-      let reading = reading_of placed.1.foreign placed.1.content in
+      let reading = limited_reading placed.1.foreign placed.1.content in
       let expects : (q : Question) → CanBeAsked q → 1 ≤ answered_by q reading → 1 ≤ open_in q pair.other.owed = λ q can some. let have = holds.enough tt q can in let time = timely q can in omega (arith, have, time, some) in
       let behind = our_behind side protocol message refl is_unfinished (counted pair) reading holds.orderly holds.says.0 expects in (
         reading_each P message (own_hosts side is_of_answers message refl (fair side)) protocol is_unfinished (counted pair) reading (our_may side protocol message refl is_unfinished (counted pair) reading holds.orderly holds.says.0 expects),
@@ -88,7 +88,7 @@ module _ (protocol : Protocol) (side : Side) (mine yours : Stream) where
       → Each P (content_outcome protocol (other side) is_unfinished placed (swap pair)).findings × Holds ours rest (swap (content_outcome protocol (other side) is_unfinished placed (swap pair)).pair)
   theirs is_unfinished placed ours rest pair holds =
       let message = next_message (other side) placed.0 (swap pair) in
-      let reading = reading_of placed.1.foreign placed.1.content in
+      let reading = limited_reading placed.1.foreign placed.1.content in
       let got = ask_content protocol is_unfinished message (counted (swap pair)) reading holds.orderly (reading_formed placed.1.foreign placed.1.content) in (
         their_content side is_of_answers protocol is_unfinished placed (swap pair),
         record {

@@ -9,14 +9,14 @@ use Rattle.connection_messages.specs.Texts.{call_text, calls_text, notice_text, 
 use Rattle.connection_messages.specs.declared.answer.Answer.{Answer as Given}
 use Rattle.connection_messages.specs.declared.cancels.Cancels.{Cancels}
 use Rattle.content_streams.specs.Streams.{plain}
-use Rattle.conversation_reading.specs.Strictly.{reading_of}
+use Rattle.conversation_reading.specs.Strictly.{reading_of, limited_reading}
 use Rattle.conversation_reading.specs.Wholes.{whole_of}
 use Rattle.conversation_reading.specs.declared.entry.Entry.{Entry}
 use Rattle.conversation_reading.specs.declared.entry.Kind.{Kind}
 use Rattle.conversation_reading.specs.declared.entry.Kind.TheVariants.{Request, Notification, Answer}
 use Rattle.conversation_reading.specs.declared.entry.WrittenId.{WrittenId}
 use Rattle.conversation_reading.specs.declared.reading.Reading.{Reading}
-use Rattle.conversation_reading.specs.declared.reading.Reading.TheVariants.{Foreign, NotText, NotJson, TooDeep, HalfPair, Single, Array}
+use Rattle.conversation_reading.specs.declared.reading.Reading.TheVariants.{Foreign, NotText, NotJson, OverLimits, HalfPair, Single, Array}
 use Rattle.conversation_rules.specs.Amounts.{is_null}
 use Rattle.conversation_rules.specs.Entries.{is_answer, is_between}
 use Rattle.judge_laws.proofs.Batches.{calls_messages, answers_messages, answers_named}
@@ -30,6 +30,7 @@ use Rattle.our_side.specs.Asked as says
 use Rattle.our_side.specs.Asked.{IsPlain, AreNoAnswers, AreAnswers, Says, AllSay, Question, alone, together, unread, unnamed, CanBeAsked, as_number, answered_under, ids_answered, answered_together, answered_by, answered_in}
 use Rattle.our_side.proofs.Asking.{counts, counts_all}
 use Rattle.connection.proofs.SaidSound.{IsSound, AreSound}
+use Rattle.our_side.proofs.Limited.{limited_keeps}
 
 no : {A : Type 0} (b : Bool) → b ≡ true → b ≡ false → A
 no true is isnt = absurd (cc)
@@ -49,7 +50,7 @@ other_says : (kind : Kind) (reading : Reading) (m : Message) → is_answer kind 
 other_says kind Foreign m other is = absurd is
 other_says kind NotText m other is = absurd is
 other_says kind NotJson m other is = absurd is
-other_says kind TooDeep m other is = absurd is
+other_says kind OverLimits m other is = absurd is
 other_says kind HalfPair m other is = absurd is
 other_says kind (Single entry) m other is =
     let none : is_answer entry.kind ≡ false = ap is_answer is.kind_is ∙ other in
@@ -78,7 +79,7 @@ others_say : (kind : Kind) (reading : Reading) (m : Message) → is_answer kind 
 others_say kind Foreign m other are = absurd are
 others_say kind NotText m other are = absurd are
 others_say kind NotJson m other are = absurd are
-others_say kind TooDeep m other are = absurd are
+others_say kind OverLimits m other are = absurd are
 others_say kind HalfPair m other are = absurd are
 others_say kind (Single entry) m other are = absurd are
 others_say kind (Array []) m other are = absurd are
@@ -108,7 +109,7 @@ answer_says : (o : Id) (a : Given) (reading : Reading) → IsId o → IsMessage 
 answer_says o a Foreign known is named coded = absurd is
 answer_says o a NotText known is named coded = absurd is
 answer_says o a NotJson known is named coded = absurd is
-answer_says o a TooDeep known is named coded = absurd is
+answer_says o a OverLimits known is named coded = absurd is
 answer_says o a HalfPair known is named coded = absurd is
 answer_says o a (Single entry) known is named coded = record {
   says = λ one. (written_as o, id_plain o known, named);
@@ -148,7 +149,7 @@ answers_say : (all : List (Id × Given)) (reading : Reading) → AreGiven all �
 answers_say all Foreign given are named = absurd are
 answers_say all NotText given are named = absurd are
 answers_say all NotJson given are named = absurd are
-answers_say all TooDeep given are named = absurd are
+answers_say all OverLimits given are named = absurd are
 answers_say all HalfPair given are named = absurd are
 answers_say all (Single entry) given are named = absurd are
 answers_say all (Array []) given are named = absurd are
@@ -160,27 +161,33 @@ answers_say all (Array (entry ∷ entries)) given are named = record {
       omega (arith, same, few);
 }
 
-message_says : (cancels : Option Cancels) (m : Message) → IsSound cancels m → SaysAs (reading_of false (text_of m)) m
-message_says cancels (call key o) sound = other_says Request (reading_of false (call_text key o)) (call key o) refl (call_message key o sound.0 sound.1)
-message_says cancels (calls key []) sound = absurd sound
-message_says cancels (calls key (o ∷ os)) sound = others_say Request (reading_of false (calls_text key (o ∷ os))) (calls key (o ∷ os)) refl (calls_messages key o os sound.0 sound.1)
-message_says cancels (notice o) sound = other_says Notification (reading_of false (notice_text o)) (notice o) refl (notice_message o sound)
-message_says cancels (withdrawal by key) sound = other_says Notification (reading_of false (withdrawal_text by key)) (withdrawal by key) refl (withdrawal_message by key sound.0)
-message_says cancels (answer id a) sound =
+message_read : (cancels : Option Cancels) (m : Message) → IsSound cancels m → SaysAs (reading_of false (text_of m)) m
+message_read cancels (call key o) sound = other_says Request (reading_of false (call_text key o)) (call key o) refl (call_message key o sound.0 sound.1)
+message_read cancels (calls key []) sound = absurd sound
+message_read cancels (calls key (o ∷ os)) sound = others_say Request (reading_of false (calls_text key (o ∷ os))) (calls key (o ∷ os)) refl (calls_messages key o os sound.0 sound.1)
+message_read cancels (notice o) sound = other_says Notification (reading_of false (notice_text o)) (notice o) refl (notice_message o sound)
+message_read cancels (withdrawal by key) sound = other_says Notification (reading_of false (withdrawal_text by key)) (withdrawal by key) refl (withdrawal_message by key sound.0)
+message_read cancels (answer id a) sound =
     answer_says id a (reading_of false (answer_text id a)) sound.0 (answer_message id a sound.0 sound.1) (answer_named id a sound.0 sound.1) (answer_coded id a sound.0 sound.1)
-message_says cancels (answers []) sound = absurd sound
-message_says cancels (answers (a ∷ more)) sound =
+message_read cancels (answers []) sound = absurd sound
+message_read cancels (answers (a ∷ more)) sound =
     answers_say (a ∷ more) (reading_of false (batch_text (answer_texts (a ∷ more)))) sound (answers_messages a more sound) (answers_named a more sound)
+
+over_says : (m : Message) → SaysAs OverLimits m
+over_says m = record { says = tt; few = λ q can. omega arith }
+
+message_says : (cancels : Option Cancels) (m : Message) → IsSound cancels m → SaysAs (limited_reading false (text_of m)) m
+message_says cancels m sound = limited_keeps (λ reading. SaysAs reading m) (over_says m) (reading_of false (text_of m)) (message_read cancels m sound)
 
 -- ---- all that is said
 
 abbrev pub SayEach : List Frame → Type 0
 SayEach [] = ⊤
-SayEach (frame ∷ frames) = Says (reading_of frame.foreign frame.content) × SayEach frames
+SayEach (frame ∷ frames) = Says (limited_reading frame.foreign frame.content) × SayEach frames
 
 abbrev pub answered_each : Question → List Frame → ℕ
 answered_each q [] = 0
-answered_each q (frame ∷ frames) = answered_by q (reading_of frame.foreign frame.content) + answered_each q frames
+answered_each q (frame ∷ frames) = answered_by q (limited_reading frame.foreign frame.content) + answered_each q frames
 
 pub all_say : (placed : List (ℕ × Frame)) → SayEach (map (λ placed. placed.1) placed) → AllSay placed
 all_say [] say = tt
@@ -188,7 +195,7 @@ all_say (p ∷ placed) say = (say.0, all_say placed say.1)
 
 pub each_answered : (q : Question) (placed : List (ℕ × Frame)) → answered_each q (map (λ placed. placed.1) placed) ≡ answered_in q placed
 each_answered q [] = refl
-each_answered q (p ∷ placed) = ap (λ n. answered_by q (reading_of p.1.foreign p.1.content) + n) (each_answered q placed)
+each_answered q (p ∷ placed) = ap (λ n. answered_by q (limited_reading p.1.foreign p.1.content) + n) (each_answered q placed)
 
 pub first_answered : (q : Question) (n : ℕ) (placed : List (ℕ × Frame)) → answered_in q (take n placed) ≤ answered_in q placed
 first_answered q zero placed = omega arith

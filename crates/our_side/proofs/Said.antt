@@ -5,11 +5,11 @@ use Rattle.connection_messages.specs.ReadBack.{answer_texts}
 use Rattle.connection_messages.specs.declared.cancels.Cancels.{Cancels}
 use Rattle.connection.specs.BackToBack.{Message, call, calls, notice, withdrawal, answer, answers, text_of}
 use Rattle.content_streams.specs.Streams.{plain}
-use Rattle.conversation_reading.specs.Strictly.{reading_of}
+use Rattle.conversation_reading.specs.Strictly.{reading_of, limited_reading}
 use Rattle.conversation_reading.specs.declared.entry.Entry.{Entry}
 use Rattle.conversation_reading.specs.declared.entry.Kind.TheVariants.{Request, Notification, Answer}
 use Rattle.conversation_reading.specs.declared.reading.Reading.{Reading}
-use Rattle.conversation_reading.specs.declared.reading.Reading.TheVariants.{Foreign, NotText, NotJson, TooDeep, HalfPair, Single, Array}
+use Rattle.conversation_reading.specs.declared.reading.Reading.TheVariants.{Foreign, NotText, NotJson, OverLimits, HalfPair, Single, Array}
 use Rattle.conversation_rules.specs.Entries.{is_answer, is_request}
 use Rattle.judge_laws.specs.Messages.{IsEntry, AreEntries, IsMessage, AreMessages, HasKey, HaveKeys, IsKeyed, AreKeyed, HasNoId}
 use Rattle.judge_laws.proofs.Batches.{calls_messages, calls_keyed, answers_messages}
@@ -17,6 +17,7 @@ use Rattle.judge_laws.proofs.Failures.{answer_message}
 use Rattle.judge_laws.proofs.SaidStrictly.{call_message, call_keyed, notice_message, notice_unnamed, withdrawal_message, withdrawal_unnamed}
 use Rattle.our_side.specs.Saying.{IsSaid, AreSaid, IsWell, AreWell}
 use Rattle.connection.proofs.SaidSound.{IsSound, AreSound}
+use Rattle.our_side.proofs.Limited.{limited_keeps}
 
 no : (b : Bool) {A : Type 0} → b ≡ true → b ≡ false → A
 no true is isnt = cc
@@ -69,7 +70,7 @@ call_well : (key : ℕ) (reading : Reading) → key < 2 ^ 64 → IsMessage Reque
 call_well key Foreign small is named = absurd is
 call_well key NotText small is named = absurd is
 call_well key NotJson small is named = absurd is
-call_well key TooDeep small is named = absurd is
+call_well key OverLimits small is named = absurd is
 call_well key HalfPair small is named = absurd is
 call_well key (Single entry) small is named = call_said key entry small is named
 call_well key (Array entries) small is named = absurd is
@@ -78,7 +79,7 @@ calls_well : (key count : ℕ) (reading : Reading) → key + count ≤ 2 ^ 64 �
 calls_well key count Foreign few are named = absurd are
 calls_well key count NotText few are named = absurd are
 calls_well key count NotJson few are named = absurd are
-calls_well key count TooDeep few are named = absurd are
+calls_well key count OverLimits few are named = absurd are
 calls_well key count HalfPair few are named = absurd are
 calls_well key count (Single entry) few are named = absurd are
 calls_well key count (Array []) few are named = absurd are
@@ -88,7 +89,7 @@ notice_well : (reading : Reading) → IsMessage Notification reading → HasNoId
 notice_well Foreign is none = absurd is
 notice_well NotText is none = absurd is
 notice_well NotJson is none = absurd is
-notice_well TooDeep is none = absurd is
+notice_well OverLimits is none = absurd is
 notice_well HalfPair is none = absurd is
 notice_well (Single entry) is none = notice_said entry is none
 notice_well (Array entries) is none = absurd is
@@ -97,7 +98,7 @@ answer_well : (reading : Reading) → IsMessage Answer reading → IsWell readin
 answer_well Foreign is = absurd is
 answer_well NotText is = absurd is
 answer_well NotJson is = absurd is
-answer_well TooDeep is = absurd is
+answer_well OverLimits is = absurd is
 answer_well HalfPair is = absurd is
 answer_well (Single entry) is = answer_said entry is
 answer_well (Array entries) is = absurd is
@@ -106,7 +107,7 @@ answers_well : (reading : Reading) → AreMessages Answer reading → IsWell rea
 answers_well Foreign are = absurd are
 answers_well NotText are = absurd are
 answers_well NotJson are = absurd are
-answers_well TooDeep are = absurd are
+answers_well OverLimits are = absurd are
 answers_well HalfPair are = absurd are
 answers_well (Single entry) are = absurd are
 answers_well (Array []) are = absurd are
@@ -114,16 +115,19 @@ answers_well (Array (entry ∷ entries)) are = answers_said (entry ∷ entries) 
 
 -- ---- messages
 
-pub message_well : (cancels : Option Cancels) (m : Message) → IsSound cancels m → IsWell (reading_of false (text_of m))
-message_well cancels (call key o) sound = call_well key (reading_of false (call_text key o)) sound.0 (call_message key o sound.0 sound.1) (call_keyed key o sound.0 sound.1)
-message_well cancels (calls key []) sound = absurd sound
-message_well cancels (calls key (o ∷ os)) sound =
+message_read : (cancels : Option Cancels) (m : Message) → IsSound cancels m → IsWell (reading_of false (text_of m))
+message_read cancels (call key o) sound = call_well key (reading_of false (call_text key o)) sound.0 (call_message key o sound.0 sound.1) (call_keyed key o sound.0 sound.1)
+message_read cancels (calls key []) sound = absurd sound
+message_read cancels (calls key (o ∷ os)) sound =
     calls_well key (length (o ∷ os)) (reading_of false (calls_text key (o ∷ os))) sound.0 (calls_messages key o os sound.0 sound.1) (calls_keyed key o os sound.0 sound.1)
-message_well cancels (notice o) sound = notice_well (reading_of false (notice_text o)) (notice_message o sound) (notice_unnamed o sound)
-message_well cancels (withdrawal by key) sound = notice_well (reading_of false (withdrawal_text by key)) (withdrawal_message by key sound.0) (withdrawal_unnamed by key sound.0)
-message_well cancels (answer id a) sound = answer_well (reading_of false (answer_text id a)) (answer_message id a sound.0 sound.1)
-message_well cancels (answers []) sound = absurd sound
-message_well cancels (answers (a ∷ more)) sound = answers_well (reading_of false (batch_text (answer_texts (a ∷ more)))) (answers_messages a more sound)
+message_read cancels (notice o) sound = notice_well (reading_of false (notice_text o)) (notice_message o sound) (notice_unnamed o sound)
+message_read cancels (withdrawal by key) sound = notice_well (reading_of false (withdrawal_text by key)) (withdrawal_message by key sound.0) (withdrawal_unnamed by key sound.0)
+message_read cancels (answer id a) sound = answer_well (reading_of false (answer_text id a)) (answer_message id a sound.0 sound.1)
+message_read cancels (answers []) sound = absurd sound
+message_read cancels (answers (a ∷ more)) sound = answers_well (reading_of false (batch_text (answer_texts (a ∷ more)))) (answers_messages a more sound)
+
+pub message_well : (cancels : Option Cancels) (m : Message) → IsSound cancels m → IsWell (limited_reading false (text_of m))
+message_well cancels m sound = limited_keeps IsWell tt (reading_of false (text_of m)) (message_read cancels m sound)
 
 -- those that are whole in what was seen
 pub messages_well : (cancels : Option Cancels) (ms : List Message) (n : ℕ) → AreSound cancels ms → AreWell (map plain (take n (map text_of ms)))

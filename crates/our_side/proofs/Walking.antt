@@ -5,7 +5,7 @@ use Rattle.std.specs.Option.{option_map_or}
 use Rattle.conversation_reading.specs.declared.entry.Entry.{Entry}
 use Rattle.conversation_reading.specs.declared.entry.WrittenId.{WrittenId}
 use Rattle.conversation_reading.specs.declared.reading.Reading.{Reading}
-use Rattle.conversation_reading.specs.declared.reading.Reading.TheVariants.{Foreign, NotText, NotJson, TooDeep, HalfPair, Single, Array}
+use Rattle.conversation_reading.specs.declared.reading.Reading.TheVariants.{Foreign, NotText, NotJson, OverLimits, HalfPair, Single, Array}
 use Rattle.conversation_rules.specs.Answers.{Each as Taken, cancelled_code_level, fit_findings, stray_of, not_owed_level, refuses, not_owed, each_not_owed, are_told, not_owed_findings, behind_not_owed, single_fit_findings, single_findings_of, rest_of, target_of, single_findings, or_note, taken_findings, array_findings, are_well, among_findings, target_in_array, apart_findings, with_found, with_reply, each_of, strays_findings, new_each, none_fits, each_findings, answers_findings_of, batch_rest, answers_findings}
 use Rattle.conversation_rules.specs.Contents.{Outcome, not_json_rule, sight_of, opened, single_answer_findings, single_outcome, empty_outcome, are_answers, batch_findings, entries_findings, replies_in, reply_ids, have_huge, array_outcome, line_end_findings, behind_line_end, reading_outcome}
 use Rattle.conversation_rules.specs.Dues as dues
@@ -232,7 +232,7 @@ abbrev pub ReadingMay : (Finding → Type 0) → Message → Protocol → Bool �
 ReadingMay P message protocol is_unfinished pair Foreign = May P message rules.Charset
 ReadingMay P message protocol is_unfinished pair NotText = May P message (not_json_rule is_unfinished)
 ReadingMay P message protocol is_unfinished pair NotJson = May P message (not_json_rule is_unfinished)
-ReadingMay P message protocol is_unfinished pair TooDeep = ⊤
+ReadingMay P message protocol is_unfinished pair OverLimits = ⊤
 ReadingMay P message protocol is_unfinished pair HalfPair = ⊤
 ReadingMay P message protocol is_unfinished pair (Single entry) =
     Faulty P message entry × Each P (id_findings protocol message 0 false (opened message false entry.has_huge pair.own) entry)
@@ -258,7 +258,7 @@ module _ (P : Finding → Type 0) (message : Message) (host : Hosts P message) w
   reading_each protocol is_unfinished pair Foreign may = (may 0 Must, tt)
   reading_each protocol is_unfinished pair NotText may = (may 0 Must, tt)
   reading_each protocol is_unfinished pair NotJson may = (may 0 Must, tt)
-  reading_each protocol is_unfinished pair TooDeep may = (host.not_judged 0 Note, tt)
+  reading_each protocol is_unfinished pair OverLimits may = (host.not_judged 0 Note, tt)
   reading_each protocol is_unfinished pair HalfPair may = (host.not_judged 0 Note, tt)
   reading_each protocol is_unfinished pair (Single entry) may =
       ended_each is_unfinished (single_outcome protocol message entry pair)

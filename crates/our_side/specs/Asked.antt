@@ -3,12 +3,12 @@ use Rattle.std.specs.Prelude.{◌≡◌, ◌⊎◌, ◌+◌, ◌<◌, ◌^◌, �
 use Rattle.std.specs.Option.{option_map_or, option_to_list}
 use Rattle.lsp_frames.specs.declared.frame.Frame.{Frame}
 use Rattle.content_streams.specs.Streams.{Stream, placed_contents}
-use Rattle.conversation_reading.specs.Strictly.{reading_of}
+use Rattle.conversation_reading.specs.Strictly.{limited_reading}
 use Rattle.conversation_reading.specs.declared.entry.Entry.{Entry}
 use Rattle.conversation_reading.specs.declared.entry.WrittenId.{WrittenId}
 use Rattle.conversation_reading.specs.declared.entry.WrittenId.TheVariants.{Null, Text, Number}
 use Rattle.conversation_reading.specs.declared.reading.Reading.{Reading}
-use Rattle.conversation_reading.specs.declared.reading.Reading.TheVariants.{Foreign, NotText, NotJson, TooDeep, HalfPair, Single, Array}
+use Rattle.conversation_reading.specs.declared.reading.Reading.TheVariants.{Foreign, NotText, NotJson, OverLimits, HalfPair, Single, Array}
 use Rattle.conversation_rules.specs.Amounts.{same_id, is_null}
 use Rattle.conversation_rules.specs.Entries.{is_answer, is_between, code_of}
 use Rattle.conversation_rules.specs.Matching.{same_ids}
@@ -66,7 +66,7 @@ abbrev pub Says : Reading → Type 0
 Says Foreign = ⊥
 Says NotText = ⊥
 Says NotJson = ⊥
-Says TooDeep = ⊥
+Says OverLimits = ⊤
 Says HalfPair = ⊥
 Says (Single entry) = is_answer entry.kind ≡ true → HasPlain entry
 Says (Array entries) = AreNoAnswers entries ⊎ AreAnswers entries
@@ -112,7 +112,7 @@ abbrev pub asked_by : Question → Reading → ℕ
 asked_by question Foreign = asked_from question false true []
 asked_by question NotText = asked_from question false true []
 asked_by question NotJson = asked_from question false true []
-asked_by question TooDeep = asked_from question false true []
+asked_by question OverLimits = asked_from question false true []
 asked_by question HalfPair = asked_from question false true []
 asked_by question (Single entry) = asked_from question false false (option_to_list (expected_of entry))
 asked_by question (Array []) = asked_from question false false (Null ∷ [])
@@ -144,7 +144,7 @@ abbrev pub answered_by : Question → Reading → ℕ
 answered_by question Foreign = 0
 answered_by question NotText = 0
 answered_by question NotJson = 0
-answered_by question TooDeep = 0
+answered_by question OverLimits = 0
 answered_by question HalfPair = 0
 answered_by question (Single entry) = if is_answer entry.kind then answered_under question (says_unread entry) entry.id else 0
 answered_by question (Array entries) = answered_together question (ids_answered entries)
@@ -153,15 +153,15 @@ answered_by question (Array entries) = answered_together question (ids_answered 
 
 abbrev pub asked_in : Question → List (ℕ × Frame) → ℕ
 asked_in question [] = 0
-asked_in question (placed ∷ contents) = asked_by question (reading_of placed.1.foreign placed.1.content) + asked_in question contents
+asked_in question (placed ∷ contents) = asked_by question (limited_reading placed.1.foreign placed.1.content) + asked_in question contents
 
 abbrev pub answered_in : Question → List (ℕ × Frame) → ℕ
 answered_in question [] = 0
-answered_in question (placed ∷ contents) = answered_by question (reading_of placed.1.foreign placed.1.content) + answered_in question contents
+answered_in question (placed ∷ contents) = answered_by question (limited_reading placed.1.foreign placed.1.content) + answered_in question contents
 
 abbrev pub AllSay : List (ℕ × Frame) → Type 0
 AllSay [] = ⊤
-AllSay (placed ∷ contents) = Says (reading_of placed.1.foreign placed.1.content) × AllSay contents
+AllSay (placed ∷ contents) = Says (limited_reading placed.1.foreign placed.1.content) × AllSay contents
 
 -- those that were judged
 abbrev pub judged : Stream → List (ℕ × Frame)

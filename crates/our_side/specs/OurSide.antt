@@ -1,5 +1,5 @@
 -- A side of a conversation that is a connection of this library, whatever its host does.
-use Rattle.std.specs.Prelude.{◌≡◌, ◌≢◌, ◌≤◌, ℕ, List, [], ◌∷◌, ◌++◌, map, take, length, false, Some, ⊤}
+use Rattle.std.specs.Prelude.{◌≡◌, ◌≢◌, ◌≤◌, nat_lt, ℕ, List, [], ◌∷◌, ◌++◌, map, take, length, false, Some, ⊤}
 use Rattle.connection_history.specs.History.{Happening, History, units_of}
 use Rattle.connection_history.specs.declared.event.Event.{Event}
 use Rattle.connection.specs.BackToBack.{AllFit, AreFirst, IsEndedWhole}
@@ -12,6 +12,7 @@ use Rattle.connection_messages.specs.declared.cancels.Cancels.TheVariants.{Mcp}
 use Rattle.conversation_reading.specs.Strictly.{reading_of}
 use Rattle.conversation_reading.specs.declared.reading.Reading.{Reading}
 use Rattle.conversation_reading.specs.declared.reading.Reading.TheVariants.{Array}
+use Rattle.conversation_reading.specs.declared.reading.TheConstants.{MOST_ENTRIES_IN}
 use Rattle.conversation_rules.specs.Judging.{Seen, state_of, stream_of}
 use Rattle.conversation_rules.specs.declared.finding.Limits.{Limits}
 use Rattle.conversation_rules.specs.declared.protocol.Protocol.{Protocol}
@@ -62,9 +63,9 @@ pub record IsOurSide (protocol : Protocol) (framing : Framing) (limits : Limits)
   pub in_time : (before after : List Seen) → seen ≡ before ++ after → IsInTime protocol framing limits side connection history before
 
 -- A connection with these settings answers each request of an array, and all in one array: the array has no more entries than
--- the connection takes, and no cancel of MCP takes an answer out.
+-- the connection takes, nor than the judge does, and no cancel of MCP takes an answer out.
 abbrev pub IsTakenWhole : Chosen → Reading → Type 0
-IsTakenWhole settings (Array (entry ∷ entries)) = (are_too_many settings.most_entries (length (entry ∷ entries)) ≡ false) × (settings.cancels ≢ Some Mcp)
+IsTakenWhole settings (Array (entry ∷ entries)) = (are_too_many settings.most_entries (length (entry ∷ entries)) ≡ false) × (settings.cancels ≢ Some Mcp) × (nat_lt MOST_ENTRIES_IN (length (entry ∷ entries)) ≡ false)
 IsTakenWhole settings _ = ⊤
 
 abbrev pub AllTakenWhole : Chosen → List (ℕ × Frame) → Type 0

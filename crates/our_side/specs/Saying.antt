@@ -1,11 +1,11 @@
 -- What a connection says, as it is read strictly: messages without a fault, whose requests have keys as their ids.
 use Rattle.std.specs.Prelude.{◌≡◌, ◌<◌, ◌^◌, ℕ, false, true, List, [], ◌∷◌, None, Some, ⊤, decimal}
 use Rattle.lsp_frames.specs.declared.frame.Frame.{Frame}
-use Rattle.conversation_reading.specs.Strictly.{has_fault, reading_of}
+use Rattle.conversation_reading.specs.Strictly.{has_fault, limited_reading}
 use Rattle.conversation_reading.specs.declared.entry.Entry.{Entry}
 use Rattle.conversation_reading.specs.declared.entry.WrittenId.TheVariants.{Number}
 use Rattle.conversation_reading.specs.declared.reading.Reading.{Reading}
-use Rattle.conversation_reading.specs.declared.reading.Reading.TheVariants.{Foreign, NotText, NotJson, TooDeep, HalfPair, Single, Array}
+use Rattle.conversation_reading.specs.declared.reading.Reading.TheVariants.{Foreign, NotText, NotJson, OverLimits, HalfPair, Single, Array}
 use Rattle.conversation_rules.specs.Entries.{is_answer, is_both, is_request}
 use Rattle.conversation_rules.specs.Owed.{has_twice}
 
@@ -36,7 +36,7 @@ abbrev pub IsWell : Reading → Type 0
 IsWell Foreign = ⊥
 IsWell NotText = ⊥
 IsWell NotJson = ⊥
-IsWell TooDeep = ⊥
+IsWell OverLimits = ⊤
 IsWell HalfPair = ⊥
 IsWell (Single entry) = IsSaid entry
 IsWell (Array entries) = AreSome entries
@@ -44,4 +44,4 @@ IsWell (Array entries) = AreSome entries
 -- contents that are all such
 abbrev pub AreWell : List Frame → Type 0
 AreWell [] = ⊤
-AreWell (frame ∷ frames) = IsWell (reading_of frame.foreign frame.content) × AreWell frames
+AreWell (frame ∷ frames) = IsWell (limited_reading frame.foreign frame.content) × AreWell frames

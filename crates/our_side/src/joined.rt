@@ -22,9 +22,9 @@ use connection::contents_of_what_is_written_are_its_texts;
 use content_streams::{placed_contents_are_the_contents, places_stay};
 
 /// Whatever was seen of the other side: batches, invalid entries and contents that can't be read too. Where batches are
-/// among it, they have no more entries than the connection takes, and it has no cancels of MCP. And its host answers no
-/// call that came alone with the id null by -32700. Then a side that is a connection is told neither as `not-owed` nor
-/// as `not-as-array`, by each set of rules, whatever else its settings are and its host says.
+/// among it, they have no more entries than the connection takes, nor than the judge does, and it has no cancels of MCP.
+/// And its host answers no call that came alone with the id null by -32700. Then a side that is a connection is told
+/// neither as `not-owed` nor as `not-as-array`, by each set of rules, whatever else its settings are and its host says.
 pub fn a_connection_is_not_accused_of_its_answers()
     ensures { (protocol : Protocol) (framing : Framing) (limits : Limits) (seen : List Seen) (side : Side)
         (connection : Connection) (history : History) (told : List Event) (n : ℕ) →
