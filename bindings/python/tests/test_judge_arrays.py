@@ -26,6 +26,15 @@ class Arrays(Case):
         self.lines = [line_of(it, rules) for it in found if it.side == "server"]
         return [f"{it.level} {it.rule} {it.number}" for it in found if it.side == "server"]
 
+    @rows([(100_000, []), (100_001, ["note not-judged 1"])])
+    def test_many_entries(self, many, found):
+        """An array of more than 100,000 isn't looked into, and judging goes on."""
+        content = b"[" + b",".join([json.dumps(NOTIFICATION).encode()] * many) + b"]\n"
+        talk = Talk("jsonrpc", "lines")
+        told = talk.saw("client", content + b"1\n")
+        talk.close()
+        self.assertEqual([f"{it.level} {it.rule} {it.number}" for it in told], [*found, "must object 2"])
+
     @rows(["lsp", "mcp"])
     def test_one_error_for_each_array(self, rules):
         """(as JSON-RPC 5 and 5.1 say it of what is no request: -32600 with the id null)"""

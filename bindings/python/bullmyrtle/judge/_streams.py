@@ -7,6 +7,8 @@ from typing import Any, Callable, List, NamedTuple, Optional, Tuple
 
 _MOST_CONTENT, _MOST_HEAD = 16_777_216, 4_096
 _LENGTH = b"content-length"
+# An array with more entries isn't looked into, as in the library.
+_MOST_ENTRIES = 100_000
 
 
 class Stream:
@@ -153,15 +155,15 @@ def _loads(text: str) -> Any:
 
 
 def read(side: str, number: int, offset: int, content: bytes) -> Message:
-    """Reads a content. One that isn't JSON has no entries."""
+    """Reads a content. One that isn't JSON has no entries, nor has an array of too many."""
     try:
         value = _loads(content.decode())
     except (ValueError, RecursionError):
         return Message(side, number, offset, content, [], False)
     is_array = isinstance(value, list)
-    return Message(
-        side, number, offset, content, [_entry(it) for it in (value if is_array else [value])], is_array
-    )
+    values = value if is_array else [value]
+    entries = [_entry(it) for it in values] if len(values) <= _MOST_ENTRIES else []
+    return Message(side, number, offset, content, entries, is_array)
 
 
 def twice_in(content: bytes, entry: int) -> List[str]:
