@@ -58,8 +58,8 @@ framing_named name =
 -- two names, and a blank between them
 abbrev pub head_named : List ℕ → Option Head
 head_named names =
-    option_and_then (λ protocol. option_map (λ framing. record { protocol = protocol; framing = framing }) (framing_named (after_first (λ c. c == 32) names)))
-    (protocol_named (before_first (λ c. c == 32) names))
+    option_and_then (λ framing. option_map (λ protocol. record { protocol = protocol; framing = framing }) (protocol_named (before_first (λ c. c == 32) names)))
+    (framing_named (after_first (λ c. c == 32) names))
 
 abbrev pub head_in : List ℕ → Option Head
 head_in line = if starts_with nat_eq line (codes "judge 1 ") then option_and_then head_named (text_in (drop 8 line)) else None

@@ -30,8 +30,8 @@ fn head_named(names: &str) -> Option<Head>
     ensures { result ≡ head_named names.now }
 {
     let (rules, framing) = names.split_once(' ')?;
-    let protocol = protocol_named(rules)?;
     let framing = framing_named(framing)?;
+    let protocol = protocol_named(rules)?;
     Some(Head { protocol, framing })
 }
 

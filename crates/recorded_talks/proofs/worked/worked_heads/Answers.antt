@@ -5,4 +5,4 @@ use Rattle.recorded_talks.proofs.worked.worked_heads.Goals as goal
 
 pub returns : goal.returns
 unfolding is_utf8 chars lib.Utf8.encode
-returns c = record { usual = refl; blanks = refl; other_version = refl; other_rules = refl; other_framing = refl; remark = refl }
+returns c = record { usual = refl; blanks = refl; newest = refl; other_version = refl; other_rules = refl; other_framing = refl; remark = refl }
