@@ -124,7 +124,7 @@ def check_entries(count: ran.Count, program: str) -> None:
 def check_refused(count: ran.Count, program: str) -> None:
     values = interface.names_in_header()
     bad = f"code {values['BM_SETTINGS']}"
-    for options in ("4 0 0 0", "0 3 0 0", "0 0 16777217 0", "4294967295 0 0 0"):
+    for options in ("6 0 0 0", "0 3 0 0", "0 0 16777217 0", "4294967295 0 0 0"):
         got = said([program], f"judge {options}\n".encode())
         count.same(f"options that there aren't: {options}", got[:2], (0, f"{bad}\n".encode()))
     ask = b'{"jsonrpc":"2.0","method":"a","id":1}\n'.hex()
