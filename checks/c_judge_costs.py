@@ -21,7 +21,7 @@ from support.callgrind import instructions
 COUNT, MOST_GROWTH = 10_000, 2.2
 # A request and its answer before the judge take so many times what a connection takes for them: a twelfth more than was
 # measured (docs/performance.md).
-MOST_TIMES = 3.35
+MOST_TIMES = 3.22
 FEWEST_HELD, FEW_HELD, MANY_HELD = 1_000, 100_000, 200_000
 KINDS = tuple(f"{way}{ids}" for ids in ("", "-strings") for way in ("passed", "open", "reversed"))
 # Contents that can't be read, behind as many open requests.
