@@ -140,10 +140,12 @@ enum {
 
 /* The judge: the rules that a conversation is checked against. */
 enum {
-    BM_RULES_JSONRPC,       /* JSON-RPC 2.0 alone */
-    BM_RULES_LSP,           /* the Language Server Protocol */
-    BM_RULES_MCP,           /* the Model Context Protocol of 2025-06-18 */
-    BM_RULES_MCP_2025_03_26 /* that of 2025-03-26, which has batches */
+    BM_RULES_JSONRPC,        /* JSON-RPC 2.0 alone */
+    BM_RULES_LSP,            /* the Language Server Protocol */
+    BM_RULES_MCP,            /* the Model Context Protocol of 2025-11-25 */
+    BM_RULES_MCP_2025_06_18, /* that of 2025-06-18 */
+    BM_RULES_MCP_2025_03_26, /* that of 2025-03-26, which has batches */
+    BM_RULES_MCP_2024_11_05  /* that of 2024-11-05 */
 };
 
 /* The two sides: the client is the one that started the other. */
