@@ -172,7 +172,7 @@ static void options_of_a_judge(void)
         {.size = WHOLE - 1},
         {.size = WHOLE + 4},
         {.size = UINT32_MAX},
-        {.size = WHOLE, .rules = 4},
+        {.size = WHOLE, .rules = BM_RULES_MCP_2024_11_05 + 1},
         {.size = WHOLE, .rules = UINT32_MAX},
         {.size = WHOLE, .framing = 3},
         {.size = WHOLE, .content = (1 << 24) + 1},
