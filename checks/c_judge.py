@@ -20,6 +20,7 @@ from support import ran
 from support.c_programs import C99, EXAMPLES, SUPPORT, VALGRIND, build, default_library, is_whole, said, wrapped
 from support.judge_conversations import Seen
 from support.judge_model import MOST_CONTENT, MOST_IDS, Judge
+from support.judge_reading import MOST_ENTRIES
 from support.judged_in_c import KINDS, NAMES, talks
 
 CASES, FEW = 300, 12
@@ -111,14 +112,24 @@ def check_limits(count: ran.Count, program: str) -> None:
 
 
 def check_entries(count: ran.Count, program: str) -> None:
-    """An array of 8,388,607 entries, which are more than are judged, takes no room behind what its values take."""
+    """As many entries as an array may have, and one more, behind which judging goes on. (No row has them, since each wrong
+    judge would read them.) And an array of 8,388,607 entries takes no room behind what its values take."""
+    one = b'{"jsonrpc":"2.0","method":"a"}'
     ones = b"[" + b"1," * 8_388_606 + b"1]"
-    judge = Judge("jsonrpc", "contents", MOST_CONTENT, MOST_IDS)
-    conversations.show(judge, [Seen("client", ones)])
-    lines = ["code 0", "code 0", *map(NAMES.line, judge.findings), "count 1"]
+    some = [b"[" + b",".join([one] * it) + b"]" for it in (MOST_ENTRIES, MOST_ENTRIES + 1)]
     limited = ["sh", "-c", f'ulimit -v {MOST_ROOM // 1024} && exec "$0"', program]
-    got = said(limited, f"judge 0 2 0 0\nsaw 0 {ones.hex()}\nnext 9\n".encode())
-    count.same(f"an array of 16 MB in {MOST_ROOM:,} bytes", (got[0], got[1].decode().splitlines()), (0, lines))
+    for content, wanted in (
+        (some[0], ["object"]),
+        (some[1], ["not-judged", "object"]),
+        (ones, ["not-judged", "object"]),
+    ):
+        judge = Judge("jsonrpc", "contents", MOST_CONTENT, MOST_IDS)
+        conversations.show(judge, [Seen("client", content), Seen("client", b"1")])
+        count.same(f"an array of {len(content):,} bytes before the model", [it.rule for it in judge.findings], wanted)
+        lines = [*["code 0"] * 3, *map(NAMES.line, judge.findings), f"count {len(wanted)}"]
+        got = said(limited, f"judge 0 2 0 0\nsaw 0 {content.hex()}\nsaw 0 31\nnext 9\n".encode())
+        result = got[0], got[1].decode().splitlines()
+        count.same(f"an array of {len(content):,} bytes, in {MOST_ROOM:,} bytes", result, (0, lines))
 
 
 def check_refused(count: ran.Count, program: str) -> None:
@@ -187,6 +198,7 @@ def main(words: list[str]) -> None:
             for kind in KINDS:
                 play(count, [program], f"{kind}, {way}", talks(kind, options.cases if way == "static" else FEW))
             check_limits(count, program)
+            check_entries(count, program)
             check_refused(count, program)
             given, status, wanted = SHOWN
             got = said([build(count, library, room, f"{EXAMPLES}/judging.c", way)], given)
