@@ -53,6 +53,7 @@ OTHER_LEVELS = {
     "id-again": (NOTE, MUST),
     "rpc-name": (NOTE,),
     "cancelled-code": (SHOULD,),
+    "cancel-params": (MUST, NOTE),
     "cancel-unknown": (NOTE, MUST),
     "after-cancel": (NOTE,),
     "unanswered": (MUST, NOTE),

@@ -239,6 +239,35 @@ WRONGS = (
         "isinstance(id_, Decimal)",
     ),
     Wrong("a request that couldn't be read was never used", "judge_model", "and not its.has_unreadable", ""),
+    Wrong(
+        "a result may be without an id",
+        "judge_reading",
+        '"error" in members and not {"id", "result"} & {*members}',
+        '"id" not in members',
+    ),
+    Wrong("an error beside a result may be without an id", "judge_reading", '{"id", "result"} &', '{"id"} &'),
+    Wrong(
+        "an error without an id settles nothing",
+        "judge_model",
+        "is_without = self.rules.leaves_ids_out and answer.entry.lacks_id",
+        "is_without = False",
+    ),
+    Wrong(
+        "a cancel without an id may have any reason",
+        "judge_model",
+        'isinstance(members.get("reason", ""), str)',
+        "True",
+    ),
+    Wrong("a cancel of null names none", "judge_model", 'and "requestId" not in members', ""),
+    Wrong(
+        "each version of MCP has batches or none",
+        "judge_rules",
+        'name="mcp:2024-11-05", batch=NOTE',
+        'name="mcp:2024-11-05"',
+    ),
+    Wrong(
+        "an older version may leave ids out", "judge_rules", "ids_once=True,\n", "ids_once=True, leaves_ids_out=True,\n"
+    ),
     Wrong("a content may nest one more", "judge_reading", "if len(closers) == DEPTH:", "if len(closers) == DEPTH + 1:"),
     Wrong("what is wrong before the depth isn't seen", "judge_reading", "        loaded(front)\n", ""),
     Wrong(
