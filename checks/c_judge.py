@@ -1,11 +1,11 @@
 """usage: python3 checks/c_judge.py [--library FOLDER] [--cases N]      tries N conversations of each kind, 300 where none are named
 
 The judge of the C library. Its header names the rules, their sections and who keeps them as the table of docs/judge.md
-does. The worked rows of judge_rows/ and random conversations, cut at random, with rooms for few findings, have the findings that the plain model has
-(`support/judge_model.py`), by each set of rules; with limits of their own too. An array of too many entries takes no room for these. Options, sides and ends that there aren't
-are refused, and nothing is changed by them. Each request for memory is refused in turn: what was found before is told,
-and nothing more is seen. Under valgrind, where it is installed, nothing is lost. The example examples/c/judging.c is
-built and run."""
+does. The worked rows of judge_rows/ and random conversations, cut at random, with rooms for few findings, have the
+findings that the plain model has (`support/judge_model.py`), by each set of rules; with limits of their own too. An
+array of too many entries takes no room for these. Options, sides and ends that there aren't are refused, and nothing is
+changed by them. Each request for memory is refused in turn: what was found before is told, and nothing more is seen.
+Under valgrind, where it is installed, nothing is lost. The example examples/c/judging.c is built and run."""
 import argparse
 import os
 import shutil

@@ -38,7 +38,7 @@ def amended(found: Finding, edition: str) -> Optional[Finding]:
     return found if amend is None or edition not in MCP else amend(found, edition)
 
 
-def lacks_id(entry: Entry) -> bool:
+def _lacks_id(entry: Entry) -> bool:
     """Whether it is an error without an id."""
     is_error = entry.kind == "answer" and entry.error is not ABSENT and entry.result is ABSENT
     return is_error and not entry.has_id
@@ -48,6 +48,7 @@ def added(message: Message, edition: str) -> List[Finding]:
     """What an older version finds beside: an error has an id, if only null, before the newest one."""
     if edition not in MCP[:-1]:
         return []
+    first = 1 if message.is_array else 0
+    places = [at for at, entry in enumerate(message.entries, first) if _lacks_id(entry)]
     side, number, offset = message.side, message.number, message.offset
-    places = [at for at, entry in enumerate(message.entries, 1) if lacks_id(entry)]
-    return [Finding(side, "id", MUST, side, number, offset, at * message.is_array) for at in places]
+    return [Finding(side, "id", MUST, side, number, offset, at) for at in places]
