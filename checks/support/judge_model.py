@@ -142,7 +142,8 @@ class Side:
     used: Used
     count: int = 0  # of its contents
     dues: list[Due] = field(default_factory=list)  # what it owes, the oldest first
-    refusals: int = 0  # its errors with the id null that fitted nothing, and may have refused what it still owes
+    refusals: int = 0  # its answers with the id null that fitted nothing, and may have refused what it still owes
+    unowed: int = 0  # the other side's arrays on which nothing is owed, and which it may still refuse
     initialize: set[Id] = field(default_factory=set)
     has_exited: bool = False
     has_unreadable: bool = False  # a content of it couldn't be read
@@ -256,6 +257,7 @@ class Judge:
                 answers.append(Answer(entry, where, words, self.is_uncalled(side, entry)))
         if not due.entries and not due.has_huge:
             self.settle_whole(OTHER[side], due)
+            self.sides[OTHER[side]].unowed += unit.is_array
         if unit.is_array:
             self.take_array(side, answers, place, are_answers)
         elif answers:
@@ -378,8 +380,9 @@ class Judge:
         """An answer that stands alone."""
         found = self.owed_to(side, answer.entry)
         if found is None and self.refuses(side, answer.entry):
-            self.sides[side].refusals += 1
-            self.find(side, "not-owed", NOTE, answer.place, f"it may refuse what is open: {answer.words}")
+            self.refuse(side)
+            words = f"a content may have been refused whole: {answer.words}"
+            self.find(side, "not-owed", NOTE, answer.place, words)
             return
         if found is None:
             self.fits_nothing(side, [answer])
@@ -439,14 +442,27 @@ class Judge:
             self.find(side, "not-owed", level, it.place, f"{self.why_not(side, it.entry.id)}: {it.words}")
 
     def refuses(self, side: str, entry: Entry) -> bool:
-        """Whether an answer that fits nothing may refuse a content whole for a limit of its side: a batch, or what its
-        reader may limit. Each counts for one of those that are open."""
+        """Whether an answer that fits nothing may refuse a content whole for a limit of its side. A result may as well,
+        since an error may have taken what it is for."""
+        is_null = entry.kind == "answer" and entry.id is None
+        return is_null and (self.refuses_open(side) or self.sides[side].unowed > 0)
+
+    def refuses_open(self, side: str) -> bool:
+        """Whether what is open may be refused: a batch is, or what its reader may limit. Each answer counts for one."""
         its = self.sides[side]
-        is_error = entry.kind == "answer" and entry.error is not ABSENT and entry.id is None
-        if not is_error or any(it.is_unreadable for it in its.dues):
-            return False
-        may_be = any(it.is_batch or it.has_huge for it in its.dues)
-        return may_be and its.refusals < len(its.dues)
+        return any(it.is_batch or it.has_huge for it in its.dues) and its.refusals < len(its.dues)
+
+    def refuse(self, side: str) -> None:
+        """An answer counts for one of those that are open, else for an array on which nothing is owed."""
+        if self.refuses_open(side):
+            self.sides[side].refusals += 1
+        else:
+            self.sides[side].unowed -= 1
+
+    def is_unsure(self, side: str, entry: Entry) -> bool:
+        """Whether an answer with the id null may be for a content that is refused whole, or that couldn't be read."""
+        has_unreadable = any(it.is_unreadable for it in self.sides[side].dues)
+        return self.refuses(side, entry) or (entry.kind == "answer" and has_unreadable)
 
     def why_not(self, side: str, id_: Id) -> str:
         used = self.sides[OTHER[side]].used
@@ -477,38 +493,25 @@ class Judge:
         )
 
     def owed_to_null(self, side: str, entry: Entry, in_array: bool) -> Optional[tuple[Due, Optional[Owed]]]:
+        """What expects null, and what may have it; but where it may be for a whole content, only what stands alone and
+        expects it."""
         code = entry.code.within(WHOLE) if entry.code is not None else None
+        is_unsure = not in_array and self.is_unsure(side, entry)
         if code == PARSE_ERROR and not in_array:
-            return self.owed_to_parse_error(side, entry)
+            return self.owed_to_parse_error(side, is_unsure)
         order = (is_null_invalid, is_null_request) if code == INVALID_REQUEST else (is_null_request, is_null_invalid)
-        ways = [(in_batch, it) for in_batch in (False, True) for it in (*order, may_be_null)]
-        if in_array or (found := self.first(side, *ways[:3])) is None:
-            found = None if in_array else self.refused_batch(side, entry)
-            return found if found is not None else self.first(side, *ways)
-        return found
+        if is_unsure:
+            return self.first(side, *((False, it) for it in order))
+        return self.first(side, *((in_batch, it) for in_batch in (False, True) for it in (*order, may_be_null)))
 
-    def owed_to_parse_error(self, side: str, entry: Entry) -> Optional[tuple[Due, Optional[Owed]]]:
+    def owed_to_parse_error(self, side: str, is_unsure: bool) -> Optional[tuple[Due, Optional[Owed]]]:
         """What a single -32700 under null is for: what stands in no batch, first what has to be answered, and last what
-        may be left; then a batch, or a member of one."""
-        dues = self.sides[side].dues
-        unreadable = next((it for it in dues if it.is_unreadable), None)
+        may be left, and was read where it has an id."""
+        unreadable = next((it for it in self.sides[side].dues if it.is_unreadable), None)
         if unreadable is not None:
             return unreadable, None
-        if (asked := self.first(side, (False, is_null_request))) is not None:
-            return asked
-        huge = next((it for it in dues if it.has_huge), None)
-        if huge is not None:
-            return huge, None
-        if (invalid := self.first(side, (False, is_unnamed))) is not None:
-            return invalid
-        refused = self.refused_batch(side, entry)
-        return refused if refused is not None else self.first(side, (True, is_null_request))
-
-    def refused_batch(self, side: str, entry: Entry) -> Optional[tuple[Due, Optional[Owed]]]:
-        """Where the rules have no batches, an error may refuse a whole one."""
-        is_refusal = self.rules.batch is not None and entry.error is not ABSENT
-        due = next((it for it in self.sides[side].dues if it.is_batch), None) if is_refusal else None
-        return None if due is None else (due, None)
+        unnamed = self.first(side, (False, is_null_request), (False, is_unnamed))
+        return unnamed if unnamed is not None or is_unsure else self.first(side, (False, is_null_invalid))
 
     def first(self, side: str, *ways: tuple[bool, Callable[[Owed], bool]]) -> Optional[tuple[Due, Optional[Owed]]]:
         """The oldest that fits by the first way, else by the next: of single contents or of members of batches."""
@@ -572,7 +575,7 @@ class Judge:
             for owed in [] if is_excused else left:
                 self.find(side, "unanswered", NOTE if is_note else self.or_note(MUST), owed.place, owed.words)
         its.dues.clear()
-        its.refusals = 0
+        its.refusals = its.unowed = 0
 
     def ends_session(self, side: str) -> bool:
         """The client does, in LSP by `exit`, and in MCP by its end."""
