@@ -2,9 +2,9 @@
 
 The plain model of the judge (docs/judge.md) over conversations that are made at random. A connection of this library,
 before a hurt peer or joined back to back with another one, breaks no rule that is marked as a connection's, whatever its
-host does, by each set of rules; and what is found is the same where the bytes come in other pieces. Conversations that
-break nothing have no finding; with one break of a rule planted in them just this is found, at its message. A wrong
-accusation is made as small as it goes and shown."""
+host does, by each set of rules, but for notes that it may have refused a content whole; and what is found is the same
+where the bytes come in other pieces. Conversations that break nothing have no finding; with one break of a rule planted
+in them just this is found, at its message. A wrong accusation is made as small as it goes and shown."""
 import argparse
 import os
 import random
@@ -65,7 +65,7 @@ def tried(kind: str, seed: int, numbers: range) -> tuple[list[str], Counter[str]
             found = found_in(conversation, rules)
             if found != found_in(other, rules):
                 faults.append(f"{conversation.name}, {rules}: other findings where it is cut otherwise")
-            if any(it.side in conversation.ours and it.rule in CONNECTION for it in found):
+            if conversations.accused(conversation, found, CONNECTION):
                 faults.append(f"{conversation.name}, {rules}: {accusation(conversation, rules)}")
             if rules == "jsonrpc":
                 seen.update(it.rule for it in found if it.side not in conversation.ours)
@@ -82,12 +82,13 @@ def accusation(conversation: Conversation, rules: str) -> str:
             if is_accused(it, rules):
                 conversation, is_smaller = it, True
                 break
-    return f"{conversations.accused(conversation, rules, CONNECTION)} in {conversation.seen}"
+    found = found_in(conversation, rules)
+    return f"{conversations.accused(conversation, found, CONNECTION)} in {conversation.seen}"
 
 
 def is_accused(conversation: Conversation, rules: str) -> bool:
     try:
-        return conversations.accused(conversation, rules, CONNECTION) is not None
+        return conversations.accused(conversation, found_in(conversation, rules), CONNECTION) is not None
     except ValueError:
         return False
 

@@ -9,6 +9,7 @@ from typing import Iterator, NamedTuple, Optional
 from support import connection_sessions as sessions
 from support.connection_script import FRAMINGS, ORDERS, bytes_of
 from support.judge_model import OTHER, SIDES, Finding, Judge
+from support.judge_rules import NOTE
 
 MOST_STEPS = 120
 
@@ -68,12 +69,11 @@ def pieces_of(chance: random.Random, seen: Seen) -> Iterator[Seen]:
 
 
 def made_with_answers(seed: str) -> Iterator[sessions.Session]:
-    """Sessions whose connection answers each request: those with MCP's cancels may leave some, and those that take batches
-    of few entries answer a longer one once, which has rules of its own (docs/judge.md, "What is proved")."""
+    """Sessions whose connection answers each request: those with MCP's cancels may leave some, which has rules of its own
+    (docs/judge.md, "What is proved")."""
     for attempt in count():
         session = sessions.made(f"{seed} {attempt}" if attempt else seed)
-        _, _, cancels, *more = session.actions[0].given
-        if cancels != "mcp" and not any(str(it).startswith("entries=") for it in more):
+        if session.actions[0].given[2] != "mcp":
             yield session
 
 
@@ -199,7 +199,7 @@ def smaller(conversation: Conversation) -> Iterator[Conversation]:
         size //= 2
 
 
-def accused(conversation: Conversation, rules: str, marked: tuple[str, ...]) -> Optional[Finding]:
-    """The first finding of a rule that our sides keep."""
-    found = found_in(conversation, rules)
-    return next((it for it in found if it.side in conversation.ours and it.rule in marked), None)
+def accused(conversation: Conversation, found: list[Finding], marked: tuple[str, ...]) -> Optional[Finding]:
+    """The first finding of a rule that our sides keep. That an answer of theirs may refuse a content is a note."""
+    ours = (it for it in found if it.side in conversation.ours and it.rule in marked)
+    return next((it for it in ours if (it.rule, it.level) != ("not-owed", NOTE)), None)

@@ -143,9 +143,9 @@ def members_twice(side: str, rules: str) -> list[Step]:
 
 def method_twice(side: str, rules: str) -> list[Step]:
     """A notification with two methods, which is refused."""
-    refusal = {"jsonrpc": "2.0", "id": None, "error": {"code": -32700, "message": "m"}}
     note = b'{"jsonrpc":"2.0","method":"a","method":"b"}'
-    return [*alone(side, note, "twice", SHOULD), Step(OTHER[side], text_of(refusal))]
+    refusal = alone(OTHER[side], text_of(error(None, -32700)), "not-owed", NOTE)
+    return [*alone(side, note, "twice", SHOULD), *refusal]
 
 
 def answer_twice(side: str, rules: str) -> list[Step]:
