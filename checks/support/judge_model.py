@@ -381,8 +381,9 @@ class Judge:
         found = self.owed_to(side, answer.entry)
         if found is None and self.refuses(side, answer.entry):
             self.refuse(side)
-            words = f"a content may have been refused whole: {answer.words}"
-            self.find(side, "not-owed", NOTE, answer.place, words)
+            if answer.entry.kind == "answer":
+                words = f"a content may have been refused whole: {answer.words}"
+                self.find(side, "not-owed", NOTE, answer.place, words)
             return
         if found is None:
             self.fits_nothing(side, [answer])
@@ -444,8 +445,12 @@ class Judge:
     def refuses(self, side: str, entry: Entry) -> bool:
         """Whether an answer that fits nothing may refuse a content whole for a limit of its side. A result may as well,
         since an error may have taken what it is for."""
-        is_null = entry.kind == "answer" and entry.id is None
-        return is_null and (self.refuses_open(side) or self.sides[side].unowed > 0)
+        return self.may_refuse(entry) and (self.refuses_open(side) or self.sides[side].unowed > 0)
+
+    def may_refuse(self, entry: Entry) -> bool:
+        """An answer with the id null, or an error that may be without an id."""
+        is_without = self.rules.leaves_ids_out and entry.lacks_id
+        return is_without or (entry.kind == "answer" and entry.id is None)
 
     def refuses_open(self, side: str) -> bool:
         """Whether what is open may be refused: a batch is, or what its reader may limit. Each answer counts for one."""
@@ -462,7 +467,7 @@ class Judge:
     def is_unsure(self, side: str, entry: Entry) -> bool:
         """Whether an answer with the id null may be for a content that is refused whole, or that couldn't be read."""
         has_unreadable = any(it.is_unreadable for it in self.sides[side].dues)
-        return self.refuses(side, entry) or (entry.kind == "answer" and has_unreadable)
+        return self.refuses(side, entry) or (self.may_refuse(entry) and has_unreadable)
 
     def why_not(self, side: str, id_: Id) -> str:
         used = self.sides[OTHER[side]].used

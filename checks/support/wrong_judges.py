@@ -239,15 +239,39 @@ WRONGS = (
     Wrong(
         "a result refuses nothing",
         "judge_model",
-        'is_null = entry.kind == "answer" and',
-        'is_null = entry.kind == "answer" and entry.error is not ABSENT and',
+        'is_without or (entry.kind == "answer" and',
+        'is_without or (entry.kind == "answer" and entry.error is not ABSENT and',
     ),
-    Wrong("a broken error refuses a batch", "judge_model", 'is_null = entry.kind == "answer" and', "is_null ="),
+    Wrong(
+        "a broken error refuses a batch",
+        "judge_model",
+        'is_without or (entry.kind == "answer" and entry.id is None)',
+        "entry.id is None",
+    ),
+    Wrong(
+        "an error without an id refuses nothing",
+        "judge_model",
+        "return is_without or (entry.kind",
+        "return (entry.kind",
+    ),
+    Wrong(
+        "an error without an id refuses by any version",
+        "judge_model",
+        "return is_without or (entry.kind",
+        "return entry.lacks_id or (entry.kind",
+    ),
+    Wrong(
+        "an error without an id that refuses is told",
+        "judge_model",
+        '            self.refuse(side)\n            if answer.entry.kind == "answer":\n',
+        "            self.refuse(side)\n            if True:\n",
+    ),
     Wrong(
         "no batch is refused while a content couldn't be read",
         "judge_model",
-        "return is_null and (self.refuses_open(side)",
-        "return is_null and not any(it.is_unreadable for it in self.sides[side].dues) and (self.refuses_open(side)",
+        "return self.may_refuse(entry) and (self.refuses_open(side)",
+        "is_read = not any(it.is_unreadable for it in self.sides[side].dues)\n"
+        "        return is_read and self.may_refuse(entry) and (self.refuses_open(side)",
     ),
     Wrong(
         "an array on which nothing is owed isn't refused",
@@ -325,13 +349,13 @@ WRONGS = (
     Wrong(
         "null is for what may have it, though a content couldn't be read",
         "judge_model",
-        'self.refuses(side, entry) or (entry.kind == "answer" and has_unreadable)',
-        "self.refuses(side, entry)",
+        "return self.refuses(side, entry) or (self.may_refuse(entry) and has_unreadable)",
+        "return self.refuses(side, entry)",
     ),
     Wrong(
         "a broken answer may be for a content that couldn't be read",
         "judge_model",
-        '(entry.kind == "answer" and has_unreadable)',
+        "(self.may_refuse(entry) and has_unreadable)",
         "has_unreadable",
     ),
     Wrong(

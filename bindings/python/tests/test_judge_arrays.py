@@ -1,5 +1,5 @@
-"""Arrays that are refused whole, by an error with the id null: where the protocol has no batches they are no message, and
-else they may have too many entries."""
+"""Arrays that are refused whole, by an answer with the id null: where the protocol has no batches they are no message, and
+else they may have too many entries. (The library finds so; here stand the words that are told, and versions of MCP.)"""
 import json
 
 from helping import rows
@@ -10,6 +10,7 @@ from bullmyrtle.judge import Talk, line_of
 NOTIFICATION = {"jsonrpc": "2.0", "method": "a"}
 REQUEST = {**NOTIFICATION, "id": 5}
 ANSWER = {"jsonrpc": "2.0", "id": 9, "result": 1}
+WORDS = "a content may have been refused whole: "
 
 
 def refusal(code=-32600, id_=None):
@@ -42,7 +43,7 @@ class Arrays(Case):
             with self.subTest(rules, array=array):
                 found = self.found(rules, ("client", array), ("server", refusal()))
                 self.assertEqual(found, ["note not-owed 1"])
-                self.assertIn("an array may be refused where there are no batches", self.lines[0])
+                self.assertIn(WORDS, self.lines[0])
                 twice = [("client", array), ("client", array), *[("server", refusal())] * 3]
                 wanted = ["note not-owed 1", "note not-owed 2", "must not-owed 3"]
                 self.assertEqual(self.found(rules, *twice), wanted)
@@ -52,16 +53,21 @@ class Arrays(Case):
         refusals = [("server", refusal(code=5))] * 3
         found = self.found(rules, ("client", [NOTIFICATION]), ("client", [REQUEST]), *refusals)
         self.assertEqual(found, ["note not-owed 1", "note not-owed 2", "must not-owed 3"])
-        self.assertIn("it may refuse what is open", self.lines[0])
-        self.assertIn("a batch may be refused whole", self.lines[1])
-        self.assertNotIn("refuse", self.lines[2])
+        self.assertEqual([WORDS in it for it in self.lines], [True, True, False])
+
+    @rows(["lsp", "mcp", "jsonrpc"])
+    def test_a_result_behind_a_refusal(self, rules):
+        """An error may have been taken for another entry than it was meant for, whose answer then fits nothing."""
+        messages = [("client", 5), ("client", [NOTIFICATION]), ("server", refusal())]
+        messages += [("server", {**ANSWER, "id": None})] * 2
+        self.assertEqual(self.found(rules, *messages), ["note not-owed 2", "must not-owed 3"])
+        self.assertEqual([WORDS in it for it in self.lines], [True, False])
 
     @rows(
         [
             ("before it", [("server", refusal()), ("client", [NOTIFICATION])]),
             ("of one's own", [("server", [NOTIFICATION]), ("server", refusal())]),
             ("with an id", [("client", [NOTIFICATION]), ("server", refusal(id_=9))]),
-            ("a result", [("client", [NOTIFICATION]), ("server", {**ANSWER, "id": None})]),
             ("an array", [("client", [NOTIFICATION]), ("server", [refusal()])]),
             ("no array", [("client", NOTIFICATION), ("server", refusal())]),
         ]
@@ -70,10 +76,15 @@ class Arrays(Case):
         found = [it for it in self.found("lsp", *messages) if "not-owed" in it]
         self.assertEqual([it.split()[0] for it in found], ["must"], name)
 
-    @rows([[REQUEST], [REQUEST, NOTIFICATION], [NOTIFICATION, 5], []])
-    def test_a_request_in_it_is_refused_once(self, array):
-        """(so says the library: the error is for the whole)"""
-        once = self.found("lsp", ("client", array), ("server", refusal()))
-        self.assertEqual(once, [])
+    @rows(
+        [
+            ([REQUEST], ["note not-owed 1"], "must not-owed 2"),
+            ([REQUEST, NOTIFICATION], ["note not-owed 1"], "must not-owed 2"),
+            ([NOTIFICATION, 5], ["note not-owed 1"], "should not-as-array 2"),
+            ([], [], "must not-owed 2"),
+        ]
+    )
+    def test_a_request_in_it_is_refused_once(self, array, once, then):
+        self.assertEqual(self.found("lsp", ("client", array), ("server", refusal())), once)
         twice = self.found("lsp", ("client", array), *[("server", refusal())] * 2)
-        self.assertEqual(twice, ["must not-owed 2"])
+        self.assertEqual(twice, [*once, then])

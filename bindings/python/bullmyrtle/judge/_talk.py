@@ -16,7 +16,7 @@ from ._recording import Event
 from ._rules import LIFE, NOTE, UNREADABLE
 from ._slow import Slow
 from ._streams import ABSENT, Entry, Message, Stream, read, twice_in
-from ._versions import VERSIONS, WITH_BATCHES, of_library
+from ._versions import VERSIONS, of_library
 
 #: How much of a message is quoted.
 QUOTED = 160
@@ -28,8 +28,6 @@ _LEVELS = {it.name: it.levels for it in LIFE}
 # The notification that cancels, and the member that names the request.
 _CANCELS = {"lsp": ("$/cancelRequest", "id")}
 _CANCELS.update({it: ("notifications/cancelled", "requestId") for it in VERSIONS})
-# The rules that have batches, and what an array is made of that the library takes no refusal of.
-_BATCHES, _OWED_NOTHING = ("jsonrpc", f"mcp:{WITH_BATCHES}"), {"notification", "answer"}
 
 
 class Times:
@@ -64,7 +62,6 @@ class Side:
         self.ended = ""
         self.open: Dict[Key, Deque[Asked]] = {}  # its requests that aren't answered, the oldest first
         self.times: Dict[str, Times] = {}  # of its requests, by their methods
-        self.arrays = 0  # those that nothing is owed to, and that the other side may refuse
         self.refusals = 0  # its errors that don't say what they are for, and how many messages there were
         self.refused = 0  # of the other side before the last of them
         self.is_unsure = False  # something of it couldn't be read
@@ -232,8 +229,6 @@ class Talk:
         # (what stands twice may have been read otherwise, and then a session's life went on otherwise)
         self.sides[message.side].is_unsure |= any(it.rule == "twice" for it in found)
         if UNREADABLE.isdisjoint(it.rule for it in found):
-            kinds = {it.kind for it in message.entries}
-            self.sides[message.side].arrays += message.is_array and bool(kinds) and kinds <= _OWED_NOTHING
             return told + self._lived(message, at)
         self.sides[message.side].is_unsure = True
         self.new.append(Seen(message, at, []))
@@ -244,37 +239,18 @@ class Talk:
         it = amended(found, self.edition)
         if it is None or it.words:
             return it and it._replace(words=f"{it.words}: {quoted(message.content)}")
-        if it.rule == "not-owed" and it.level != NOTE and self._is_refusal(message):
-            return it._replace(level=NOTE, words=f"{self._refused()}: {quoted(message.content)}")
         return it._replace(words=f"{self._hint(it, message)}{quoted(message.content)}")
 
-    def _is_refusal(self, message: Message) -> bool:
-        """Whether it may refuse an array that nothing is owed to, once for each. (Where an array has something that is owed
-        an answer, the library takes it for that.)"""
-        other = self.sides[OTHER[message.side]]
-        if message.is_array or not other.arrays:
-            return False
-        (entry,) = message.entries
-        if entry.id is not None or entry.error is ABSENT:
-            return False
-        other.arrays -= 1
-        return True
-
-    def _refused(self) -> str:
-        if self.rules in _BATCHES:
-            return "a batch may be refused whole"
-        return "an array may be refused where there are no batches"
-
     def _hint(self, it: Finding, message: Message) -> str:
-        """Which members stand twice; or what may have been meant by an answer that nobody waits for: a refusal, or an id
-        of another type."""
+        """Which members stand twice; or what may have been meant by an answer that nobody waits for: it is or follows a
+        refusal, or its id has another type."""
         if it.rule == "twice":
             return f"{', '.join(twice_in(message.content, it.entry))}: "
         if it.rule != "not-owed" or len(message.entries) < it.entry:
             return ""
         entry = message.entries[max(it.entry, 1) - 1]
-        if it.level == NOTE and entry.id is None and entry.error is not ABSENT:
-            return "it may refuse what is open: "
+        if it.level == NOTE and entry.id is None and not message.is_array:
+            return "a content may have been refused whole: "
         id_ = entry.id
         twin = key_of(str(id_)) if not isinstance(id_, str) else _number(id_)
         if twin is None or twin not in self.sides[OTHER[message.side]].open:
