@@ -216,7 +216,10 @@ WRONGS = (
         "bool(its.dues)",
     ),
     Wrong(
-        "a batch is refused twice", "judge_model", " for it in its.dues) and its.refusals < len(its.dues)", " for it in its.dues)"
+        "a batch is refused twice",
+        "judge_model",
+        " for it in its.dues) and its.refusals < len(its.dues)",
+        " for it in its.dues)",
     ),
     Wrong("an error refuses all batches", "judge_model", "its.refusals -= may_be_refused", "its.refusals -= 0"),
     Wrong(
