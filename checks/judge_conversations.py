@@ -1,10 +1,11 @@
 """usage: python3 checks/judge_conversations.py [--cases N] [--seed S]      tries N of each kind, 600 where none are named
 
-The plain model of the judge (docs/judge.md) over conversations that are made at random. A connection of this library,
-before a hurt peer or joined back to back with another one, breaks no rule that is marked as a connection's, whatever its
-host does, by each set of rules, but for notes that it may have refused a content whole; and what is found is the same
-where the bytes come in other pieces. Conversations that break nothing have no finding; with one break of a rule planted
-in them just this is found, at its message. A wrong accusation is made as small as it goes and shown."""
+The plain model of the judge (docs/judge.md) over conversations that are made at random. A connection of this library
+before a hurt peer, two of them joined back to back, and a side that answers as one does break no rule that is marked as
+a connection's, whatever its host does, by each set of rules, except for notes that it may have refused a content whole;
+and what is found is the same where the bytes come in other pieces. Conversations that break nothing have no finding;
+with one break of a rule planted in them just this is found, at its message. A wrong accusation is made as small as it
+goes and shown."""
 import argparse
 import os
 import random
@@ -17,6 +18,7 @@ from typing import Any, Callable, Optional
 from support import judge_conversations as conversations
 from support import judge_planted as plants
 from support import ran
+from support.judge_answering import answering
 from support.judge_conversations import Conversation, found_in
 from support.judge_rules import CONNECTION, HOST, RULES
 
@@ -52,6 +54,7 @@ def words_of(words: list[str]) -> argparse.Namespace:
 KINDS: dict[str, Callable[[str], Conversation]] = {
     "with a peer": conversations.with_a_peer,
     "joined": conversations.joined,
+    "answering": answering,
 }
 
 
