@@ -133,21 +133,21 @@ impl Dues {
         settle_named(&mut self.contents, id)
     }
 
-    /// A single answer with the id null came whose code isn't -32700: `says_invalid` where that is -32600, `may_refuse` where
-    /// it is an error and the rules have no batches. Of an array of answers one by one neither may refuse.
-    pub fn answer_null(&mut self, says_invalid: bool, may_refuse: bool) -> Option<Found>
-        ensures found { result ≡ found (null_target says_invalid may_refuse self.old) self.old }
-        ensures settled { self.new ≡ settled (null_target says_invalid may_refuse self.old) self.old }
+    /// A single answer with the id null came whose code isn't -32700: `says_invalid` where that is -32600, `is_unsure` where
+    /// it may be for a content that is refused whole, or that couldn't be read.
+    pub fn answer_null(&mut self, says_invalid: bool, is_unsure: bool) -> Option<Found>
+        ensures found { result ≡ found (null_target says_invalid is_unsure self.old) self.old }
+        ensures settled { self.new ≡ settled (null_target says_invalid is_unsure self.old) self.old }
     {
-        settle_null(&mut self.contents, says_invalid, may_refuse)
+        settle_null(&mut self.contents, says_invalid, is_unsure)
     }
 
     /// A single answer with the id null and the code -32700 came.
-    pub fn answer_parse_error(&mut self, may_refuse: bool) -> Option<Found>
-        ensures found { result ≡ found (parse_error_target may_refuse self.old) self.old }
-        ensures settled { self.new ≡ settled (parse_error_target may_refuse self.old) self.old }
+    pub fn answer_parse_error(&mut self, is_unsure: bool) -> Option<Found>
+        ensures found { result ≡ found (parse_error_target is_unsure self.old) self.old }
+        ensures settled { self.new ≡ settled (parse_error_target is_unsure self.old) self.old }
     {
-        settle_parse_error(&mut self.contents, may_refuse)
+        settle_parse_error(&mut self.contents, is_unsure)
     }
 
     /// An answer came that fits nothing: it may be for the oldest content that couldn't be read. Answers whether there is one.

@@ -30,26 +30,26 @@ pub(crate) fn settle_named(contents: &mut OpenContents, id: &WrittenId) -> Optio
 pub(crate) fn settle_null(
     contents: &mut OpenContents,
     says_invalid: bool,
-    may_refuse: bool,
+    is_unsure: bool,
 ) -> Option<Found>
     requires { IsOpen contents.old }
-    ensures found { result ≡ found (null_target says_invalid may_refuse (contents_of (open_entries contents.old))) (contents_of (open_entries contents.old)) }
+    ensures found { result ≡ found (null_target says_invalid is_unsure (contents_of (open_entries contents.old))) (contents_of (open_entries contents.old)) }
     ensures settled { contents_of (open_entries contents.new) ≡
-        settled (null_target says_invalid may_refuse (contents_of (open_entries contents.old))) (contents_of (open_entries contents.old)) }
+        settled (null_target says_invalid is_unsure (contents_of (open_entries contents.old))) (contents_of (open_entries contents.old)) }
     ensures stands { IsOpen contents.new }
 {
-    let target = null_target(contents, says_invalid, may_refuse);
+    let target = null_target(contents, says_invalid, is_unsure);
     settle(contents, target)
 }
 
-pub(crate) fn settle_parse_error(contents: &mut OpenContents, may_refuse: bool) -> Option<Found>
+pub(crate) fn settle_parse_error(contents: &mut OpenContents, is_unsure: bool) -> Option<Found>
     requires { IsOpen contents.old }
-    ensures found { result ≡ found (parse_error_target may_refuse (contents_of (open_entries contents.old))) (contents_of (open_entries contents.old)) }
+    ensures found { result ≡ found (parse_error_target is_unsure (contents_of (open_entries contents.old))) (contents_of (open_entries contents.old)) }
     ensures settled { contents_of (open_entries contents.new) ≡
-        settled (parse_error_target may_refuse (contents_of (open_entries contents.old))) (contents_of (open_entries contents.old)) }
+        settled (parse_error_target is_unsure (contents_of (open_entries contents.old))) (contents_of (open_entries contents.old)) }
     ensures stands { IsOpen contents.new }
 {
-    let target = parse_error_target(contents, may_refuse);
+    let target = parse_error_target(contents, is_unsure);
     settle(contents, target)
 }
 

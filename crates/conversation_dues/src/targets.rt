@@ -1,13 +1,12 @@
 //! What an answer is for, among the contents on which something is owed.
 
-ghost use Rattle.std.specs.Prelude.{◌≡◌, false, true, position, option_map, is_some};
+ghost use Rattle.std.specs.Prelude.{◌≡◌, None, false, true, is_some, if◌then◌else◌};
 ghost use Rattle.std.specs.List.{list_any};
 ghost use Rattle.conversation_dues.specs.Found.{target_at, whole_target};
 ghost use Rattle.conversation_open.specs.Open.{open_entries, contents_of, IsOpen};
 ghost use Rattle.conversation_ids.specs.Ways.{fits};
 ghost use Rattle.conversation_rules.specs.Dues.{may_be_refused, unreadable_target};
-ghost use Rattle.conversation_rules.specs.Matching.{oldest, or_else, is_null_request, is_unnamed, named_in, named_target, null_in, null_target, parse_error_target, refused_batch};
-ghost use Rattle.conversation_rules.specs.declared.found.Target.TheVariants.{WholeOf};
+ghost use Rattle.conversation_rules.specs.Matching.{oldest, is_null_other, named_in, named_target, expects_null_in, null_in, null_target, parse_error_target};
 
 use crate::sought::{Sought, first, is_there};
 use conversation_ids::Way;
@@ -71,15 +70,15 @@ fn named_in(contents: &OpenContents, batches: bool, id: &WrittenId) -> Option<Pl
 pub(crate) fn null_target(
     contents: &OpenContents,
     says_invalid: bool,
-    may_refuse: bool,
+    is_unsure: bool,
 ) -> Option<Place>
     requires { IsOpen contents.now }
-    ensures { null_target says_invalid may_refuse (contents_of (open_entries contents.now)) ≡ target_at (open_entries contents.now) result }
+    ensures { null_target says_invalid is_unsure (contents_of (open_entries contents.now)) ≡ target_at (open_entries contents.now) result }
 {
-    if let Some(target) = null_in(contents, says_invalid, false) {
-        return Some(target);
+    if is_unsure {
+        return expects_null_in(contents, says_invalid, false);
     }
-    match refused_batch(contents, may_refuse) {
+    match null_in(contents, says_invalid, false) {
         Some(target) => Some(target),
         None => null_in(contents, says_invalid, true),
     }
@@ -89,24 +88,31 @@ fn null_in(contents: &OpenContents, says_invalid: bool, batches: bool) -> Option
     requires { IsOpen contents.now }
     ensures { null_in says_invalid batches (contents_of (open_entries contents.now)) ≡ target_at (open_entries contents.now) result }
 {
-    let (first, second) = if says_invalid {
-        (Way::ExpectsNull, Way::AsksWithNull)
-    } else {
-        (Way::AsksWithNull, Way::ExpectsNull)
-    };
-    if let Some(target) = oldest(contents, batches, first, &WrittenId::Null) {
-        return Some(target);
-    }
-    match oldest(contents, batches, second, &WrittenId::Null) {
+    match expects_null_in(contents, says_invalid, batches) {
         Some(target) => Some(target),
         None => oldest(contents, batches, Way::MayBeNull, &WrittenId::Null),
     }
 }
 
-/// What a single -32700 with the id null is for.
-pub(crate) fn parse_error_target(contents: &OpenContents, may_refuse: bool) -> Option<Place>
+fn expects_null_in(contents: &OpenContents, says_invalid: bool, batches: bool) -> Option<Place>
     requires { IsOpen contents.now }
-    ensures { parse_error_target may_refuse (contents_of (open_entries contents.now)) ≡ target_at (open_entries contents.now) result }
+    ensures { expects_null_in says_invalid batches (contents_of (open_entries contents.now)) ≡ target_at (open_entries contents.now) result }
+{
+    let (first, second) = if says_invalid {
+        (Way::ExpectsNull, Way::AsksWithNull)
+    } else {
+        (Way::AsksWithNull, Way::ExpectsNull)
+    };
+    match oldest(contents, batches, first, &WrittenId::Null) {
+        Some(target) => Some(target),
+        None => oldest(contents, batches, second, &WrittenId::Null),
+    }
+}
+
+/// What a single -32700 with the id null is for.
+pub(crate) fn parse_error_target(contents: &OpenContents, is_unsure: bool) -> Option<Place>
+    requires { IsOpen contents.now }
+    ensures { parse_error_target is_unsure (contents_of (open_entries contents.now)) ≡ target_at (open_entries contents.now) result }
 {
     if let Some(target) = unreadable_target(contents) {
         return Some(target);
@@ -114,24 +120,24 @@ pub(crate) fn parse_error_target(contents: &OpenContents, may_refuse: bool) -> O
     if let Some(target) = oldest(contents, false, Way::AsksWithNull, &WrittenId::Null) {
         return Some(target);
     }
-    if let Some(target) = huge_content(contents) {
-        return Some(target);
+    if is_unsure && has_huge(contents) {
+        return None;
     }
     match oldest(contents, false, Way::Unnamed, &WrittenId::Null) {
         Some(target) => Some(target),
-        None => unreadable_batch(contents, may_refuse),
+        None => named_other(contents, is_unsure),
     }
 }
 
-/// What a single -32700 is for, where nothing fits that stands alone.
-fn unreadable_batch(contents: &OpenContents, may_refuse: bool) -> Option<Place>
+/// The oldest that is invalid, where no content may be refused whole.
+fn named_other(contents: &OpenContents, is_unsure: bool) -> Option<Place>
     requires { IsOpen contents.now }
-    ensures { or_else (refused_batch may_refuse (contents_of (open_entries contents.now))) (oldest true is_null_request (contents_of (open_entries contents.now)))
-        ≡ target_at (open_entries contents.now) result }
+    ensures { (if is_unsure then None else oldest false is_null_other (contents_of (open_entries contents.now))) ≡ target_at (open_entries contents.now) result }
 {
-    match refused_batch(contents, may_refuse) {
-        Some(target) => Some(target),
-        None => oldest(contents, true, Way::AsksWithNull, &WrittenId::Null),
+    if is_unsure {
+        None
+    } else {
+        oldest(contents, false, Way::ExpectsNull, &WrittenId::Null)
     }
 }
 
@@ -171,24 +177,4 @@ fn has_huge(contents: &OpenContents) -> bool
     ensures { result ≡ list_any (λ due. due.has_huge) (contents_of (open_entries contents.now)) }
 {
     is_there(contents, Sought::Huge, &WrittenId::Null)
-}
-
-/// The oldest content with a number beyond a float's range.
-fn huge_content(contents: &OpenContents) -> Option<Place>
-    requires { IsOpen contents.now }
-    ensures { option_map WholeOf (position (λ due. due.has_huge) (contents_of (open_entries contents.now))) ≡ target_at (open_entries contents.now) result }
-{
-    oldest_whole(contents, Sought::Huge)
-}
-
-/// The oldest batch, where it may be refused.
-fn refused_batch(contents: &OpenContents, may_refuse: bool) -> Option<Place>
-    requires { IsOpen contents.now }
-    ensures { refused_batch may_refuse (contents_of (open_entries contents.now)) ≡ target_at (open_entries contents.now) result }
-{
-    if may_refuse {
-        oldest_whole(contents, Sought::Batch)
-    } else {
-        None
-    }
 }

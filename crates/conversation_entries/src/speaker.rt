@@ -6,6 +6,7 @@ ghost use Rattle.conversation_rules.specs.Speakers.{new_speaker};
 
 use conversation_dues::Dues;
 use conversation_ids::UsedIds;
+use conversation_rules::Refusals;
 use std::alloc::Global;
 
 /// A side: how many contents it has, what the other side owes on them, and what it has said.
@@ -17,8 +18,8 @@ pub struct Speaker {
     /// A content of the other side couldn't be read, and may have been the answer to what is owed on this content, or on an
     /// older one: its number, or 0.
     pub unsure_up_to: u64,
-    /// How many errors with the id null the other side sent that fitted nothing, and may have refused what is owed.
-    pub refused: u64,
+    /// What the other side may have refused of it.
+    pub refusals: Refusals,
     /// The ids that its requests had, and those of `initialize`.
     pub used: UsedIds,
     pub initialize: UsedIds,
@@ -38,7 +39,10 @@ pub fn new_speaker(alloc: Global, ids: u32) -> Speaker
         count: 0,
         owed: Dues::new(alloc),
         unsure_up_to: 0,
-        refused: 0,
+        refusals: Refusals {
+            refused: 0,
+            unowed: 0,
+        },
         used: UsedIds::new(alloc, ids),
         initialize: UsedIds::new(alloc, ids),
         has_exited: false,

@@ -4,17 +4,17 @@ ghost use Rattle.std.specs.Prelude.{◌≡◌, ◌<◌, ◌+◌, ◌^◌, ◌++�
 ghost use Rattle.std.specs.Option.{option_map_or};
 ghost use Rattle.conversation_rules.specs.Amounts.{is_null};
 ghost use Rattle.conversation_rules.specs.Answers as rules;
-ghost use Rattle.conversation_rules.specs.Answers.{says_cancelled, is_uncalled, reply_of, cancelled_code_level, fit_findings, stray_of, not_owed_level, not_owed_findings, behind_not_owed, is_refusal, refuses, unfit_findings, refused_by, target_of_null, target_of_id, target_of, single_fit_findings, single_findings, behind_single, refused_behind_single, target_in_array, target_in_array_of_id};
+ghost use Rattle.conversation_rules.specs.Answers.{says_cancelled, is_uncalled, reply_of, cancelled_code_level, fit_findings, stray_of, not_owed_level, not_owed_findings, behind_not_owed, may_refuse, refuses_open, refuses, unfit_findings, one_refused, refused_by, behind_unfit, is_unsure, target_of_null, target_of_id, target_of, single_fit_findings, single_findings, behind_single, refused_behind_single, target_in_array, target_in_array_of_id};
 ghost use Rattle.conversation_rules.specs.Dues as dues;
 ghost use Rattle.conversation_rules.specs.Dues.{settled};
-ghost use Rattle.conversation_rules.specs.Protocols as protocols;
+ghost use Rattle.conversation_rules.specs.Speakers.{one_less};
 
 use conversation_dues::Dues;
-use conversation_entries::{code_of, is_between, is_lsp, is_mcp, is_well, put_if};
+use conversation_entries::{code_of, is_between, is_lsp, is_mcp, is_well, may_lack_id, put_if};
 use conversation_ids::is_null;
 use conversation_reading::{Entry, WrittenId};
 use conversation_rules::{
-    Finding, Fit, Found, Level, Message, Protocol, Reply, Rule, Sight, Stray,
+    Finding, Fit, Found, Level, Message, Protocol, Refusals, Reply, Rule, Sight, Stray,
 };
 use std::alloc::AllocError;
 
@@ -51,6 +51,12 @@ fn has_null(id: &Option<WrittenId>) -> bool
     }
 }
 
+fn may_refuse(protocol: Protocol, entry: &Entry) -> bool
+    ensures { result ≡ may_refuse protocol entry.now }
+{
+    (is_well(entry.kind) && has_null(&entry.id)) || may_lack_id(protocol, entry.there)
+}
+
 /// What is looked at of an answer, beside its id. `owed` is what its side owes.
 pub(crate) fn reply_of(protocol: Protocol, owed: &Dues, at: u64, entry: &Entry) -> Reply
     ensures { result ≡ reply_of protocol owed.now at entry.now }
@@ -58,8 +64,7 @@ pub(crate) fn reply_of(protocol: Protocol, owed: &Dues, at: u64, entry: &Entry) 
     Reply {
         at,
         is_well: is_well(entry.kind),
-        has_error: entry.there.error,
-        is_null: has_null(&entry.id),
+        may_refuse: may_refuse(protocol, entry),
         code: code_of(entry),
         is_uncalled: is_uncalled(protocol, owed, entry),
     }
@@ -165,93 +170,118 @@ pub(crate) fn put_stray(
     put_if(true, findings, message, stray.at, Rule::NotOwed, level)
 }
 
-fn is_refusal(reply: Reply) -> bool
-    ensures { result ≡ is_refusal reply }
+/// Whether one more of the contents that are open may be refused.
+fn refuses_open(refusals: Refusals, owed: &Dues) -> bool
+    ensures refuses { result ≡ refuses_open refusals owed.now }
+    ensures fewer { result ≡ true → refusals.refused + 1 < 2 ^ 64 }
 {
-    reply.is_well && reply.has_error && reply.is_null
+    owed.may_be_refused() && refusals.refused < owed.len()
 }
 
 /// Whether an answer that fits nothing counts for a content that was refused.
-fn refuses(refused: u64, reply: Reply, owed: &Dues) -> bool
-    ensures refuses { result ≡ refuses refused reply owed.now }
-    ensures fewer { result ≡ true → refused + 1 < 2 ^ 64 }
+fn refuses(sight: Sight, reply: Reply, owed: &Dues) -> bool
+    ensures { result ≡ refuses sight reply owed.now }
 {
-    is_refusal(reply) && !owed.has_unreadable() && owed.may_be_refused() && refused < owed.len()
+    reply.may_refuse && (refuses_open(sight.refusals, owed) || sight.refusals.unowed != 0)
 }
 
-/// An answer that stands alone and fits nothing. Answers how many count for a content that was refused.
+fn one_less(count: u64) -> u64
+    ensures { result ≡ one_less count }
+{
+    if count == u64::MAX {
+        count
+    } else {
+        count.saturating_sub(1)
+    }
+}
+
+fn one_refused(refusals: Refusals, owed: &Dues) -> Refusals
+    ensures { result ≡ one_refused refusals owed.now }
+{
+    if refuses_open(refusals, owed) {
+        Refusals {
+            refused: refusals.refused + 1,
+            unowed: refusals.unowed,
+        }
+    } else {
+        Refusals {
+            refused: refusals.refused,
+            unowed: one_less(refusals.unowed),
+        }
+    }
+}
+
+/// An answer that stands alone and fits nothing. Answers what its side may have refused by then.
 fn put_unfit(
     sight: Sight,
     findings: &mut Vec<Finding>,
     message: Message,
     owed: &mut Dues,
     reply: Reply,
-) -> Result<u64, AllocError>
+) -> Result<Refusals, AllocError>
     ensures findings { OnOk result (findings.new.items
         ≡ findings.old.items ++ unfit_findings sight message reply owed.old) }
-    ensures owed { owed.new ≡ behind_not_owed (stray_of reply ∷ []) owed.old }
-    ensures refused { IfOk result (λ refused. refused ≡ refused_by sight.refused reply owed.old) }
+    ensures owed { owed.new ≡ behind_unfit sight reply owed.old }
+    ensures refused { IfOk result (λ refusals. refusals ≡ refused_by sight reply owed.old) }
 {
-    if refuses(sight.refused, reply, owed) {
+    if refuses(sight, reply, owed) {
         put_if(
-            true,
+            reply.is_well,
             findings,
             message,
             reply.at,
             Rule::NotOwed,
             Level::Note,
         )?;
-        return Ok(sight.refused + 1);
+        return Ok(one_refused(sight.refusals, owed));
     }
     put_stray(sight, findings, message, owed, stray_of(reply))?;
-    Ok(sight.refused)
-}
-
-fn has_batches(protocol: Protocol) -> bool
-    ensures { result ≡ protocols.has_batches protocol }
-{
-    match protocol {
-        Protocol::JsonRpc | Protocol::Mcp20250326 => true,
-        Protocol::Lsp | Protocol::Mcp | Protocol::Mcp20250618 | Protocol::Mcp20241105 => false,
-    }
+    Ok(sight.refusals)
 }
 
 /// What a single answer is for: that is settled, and told.
 fn settle_single(
-    protocol: Protocol,
+    sight: Sight,
     owed: &mut Dues,
     reply: Reply,
     id: &Option<WrittenId>,
 ) -> Option<Found>
-    ensures found { result ≡ dues.found (target_of protocol reply id.now owed.old) owed.old }
-    ensures owed { owed.new ≡ settled (target_of protocol reply id.now owed.old) owed.old }
+    ensures found { result ≡ dues.found (target_of sight reply id.now owed.old) owed.old }
+    ensures owed { owed.new ≡ settled (target_of sight reply id.now owed.old) owed.old }
 {
     match id {
-        Some(id) => settle_id(protocol, owed, reply, id),
+        Some(id) => settle_id(sight, owed, reply, id),
         None => None,
     }
 }
 
-fn settle_id(protocol: Protocol, owed: &mut Dues, reply: Reply, id: &WrittenId) -> Option<Found>
-    ensures found { result ≡ dues.found (target_of_id protocol reply owed.old id.now) owed.old }
-    ensures owed { owed.new ≡ settled (target_of_id protocol reply owed.old id.now) owed.old }
+fn settle_id(sight: Sight, owed: &mut Dues, reply: Reply, id: &WrittenId) -> Option<Found>
+    ensures found { result ≡ dues.found (target_of_id sight reply owed.old id.now) owed.old }
+    ensures owed { owed.new ≡ settled (target_of_id sight reply owed.old id.now) owed.old }
 {
     if is_null(id) {
-        settle_null(protocol, owed, reply)
+        settle_null(sight, owed, reply)
     } else {
         owed.answer_named(id)
     }
 }
 
-fn settle_null(protocol: Protocol, owed: &mut Dues, reply: Reply) -> Option<Found>
-    ensures found { result ≡ dues.found (target_of_null protocol reply owed.old) owed.old }
-    ensures owed { owed.new ≡ settled (target_of_null protocol reply owed.old) owed.old }
+/// Whether it may be for a content that is refused whole, or that couldn't be read.
+fn is_unsure(sight: Sight, reply: Reply, owed: &Dues) -> bool
+    ensures { result ≡ is_unsure sight reply owed.now }
 {
-    let may_refuse = !has_batches(protocol) && reply.has_error;
+    refuses(sight, reply, owed) || (reply.may_refuse && owed.has_unreadable())
+}
+
+fn settle_null(sight: Sight, owed: &mut Dues, reply: Reply) -> Option<Found>
+    ensures found { result ≡ dues.found (target_of_null sight reply owed.old) owed.old }
+    ensures owed { owed.new ≡ settled (target_of_null sight reply owed.old) owed.old }
+{
+    let is_unsure = is_unsure(sight, reply, owed);
     if has_code(32700, reply) {
-        owed.answer_parse_error(may_refuse)
+        owed.answer_parse_error(is_unsure)
     } else {
-        owed.answer_null(has_code(32600, reply), may_refuse)
+        owed.answer_null(has_code(32600, reply), is_unsure)
     }
 }
 
@@ -281,7 +311,7 @@ fn settle_id_in_array(owed: &mut Dues, reply: Reply, id: &WrittenId) -> Option<F
     }
 }
 
-/// An answer that stands alone. Answers how many count for a content that was refused.
+/// An answer that stands alone. Answers what its side may have refused by then.
 pub(crate) fn put_single(
     protocol: Protocol,
     sight: Sight,
@@ -290,18 +320,18 @@ pub(crate) fn put_single(
     owed: &mut Dues,
     reply: Reply,
     id: &Option<WrittenId>,
-) -> Result<u64, AllocError>
+) -> Result<Refusals, AllocError>
     ensures findings { OnOk result (findings.new.items
         ≡ findings.old.items ++ single_findings protocol sight message reply id.now owed.old) }
-    ensures owed { owed.new ≡ behind_single protocol reply id.now owed.old }
-    ensures refused { IfOk result (λ refused. refused ≡ refused_behind_single protocol sight.refused reply id.now owed.old) }
+    ensures owed { owed.new ≡ behind_single sight reply id.now owed.old }
+    ensures refused { IfOk result (λ refusals. refusals ≡ refused_behind_single sight reply id.now owed.old) }
 {
-    match settle_single(protocol, owed, reply, id) {
+    match settle_single(sight, owed, reply, id) {
         None => return put_unfit(sight, findings, message, owed, reply),
         Some(Found::Whole) => {}
         Some(Found::Entry(fit)) => put_single_fit(protocol, sight, findings, message, reply, fit)?,
     }
-    Ok(sight.refused)
+    Ok(sight.refusals)
 }
 
 fn put_single_fit(

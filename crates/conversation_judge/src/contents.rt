@@ -1,14 +1,15 @@
 //! A content: what it breaks, and what is kept of it.
 
-ghost use Rattle.std.specs.Prelude.{◌≡◌, ◌++◌, ℕ, Some, OnOk, IfOk};
+ghost use Rattle.std.specs.Prelude.{◌≡◌, ◌++◌, ℕ, length, Some, OnOk, IfOk};
 ghost use Rattle.content_streams.specs.Streams.{capped};
 ghost use Rattle.conversation_entries.specs.Said.{said};
 ghost use Rattle.conversation_judge.specs.Said.{pair};
 ghost use Rattle.conversation_reading.specs.declared.entry.WrittenId.TheVariants.{Null};
 ghost use Rattle.conversation_rules.specs.Contents as rules;
-ghost use Rattle.conversation_rules.specs.Contents.{sight_of, not_json_rule, unreadable, single_outcome, empty_outcome, batch_findings, entries_findings, behind_entries, replies_in, reply_ids, array_outcome, behind_line_end, reading_outcome, content_outcome};
+ghost use Rattle.conversation_rules.specs.Contents.{sight_of, not_json_rule, unreadable, single_outcome, empty_outcome, batch_findings, entries_findings, behind_entries, counted_array, replies_in, reply_ids, array_outcome, behind_line_end, reading_outcome, content_outcome};
 ghost use Rattle.conversation_rules.specs.Entries.{answer_id};
 ghost use Rattle.conversation_rules.specs.Protocols as protocols;
+ghost use Rattle.conversation_rules.specs.Speakers.{Speaker as SpeakerValue};
 ghost use Rattle.lsp_frames.specs.declared.frame.Frame.{Frame as FrameValue};
 
 use crate::answers::{put_single, reply_of};
@@ -29,7 +30,7 @@ fn sight_of(own: &Speaker, other: &Speaker) -> Sight
     Sight {
         is_broken: own.is_over || other.is_over,
         has_unreadable: other.has_unreadable,
-        refused: other.refused,
+        refusals: other.refusals,
     }
 }
 
@@ -97,7 +98,7 @@ fn put_if_answer(
     let null = Some(WrittenId::Null);
     let id = id_sought(protocol, entry, &null);
     let owed = &mut other.owed;
-    other.refused = put_single(protocol, sight, findings, message, owed, reply, id)?;
+    other.refusals = put_single(protocol, sight, findings, message, owed, reply, id)?;
     Ok(())
 }
 
@@ -245,6 +246,15 @@ fn take_entries(
     Ok(())
 }
 
+/// An array on which nothing is open may be refused whole all the same. So many contents were open before it.
+fn count_array(own: &mut Speaker, before: u64)
+    ensures { (first : SpeakerValue) → before ≡ length first.owed → said own.new ≡ counted_array first (said own.old) }
+{
+    if own.owed.len() == before {
+        own.refusals.unowed = own.refusals.unowed.saturating_add(1);
+    }
+}
+
 /// A content that is an array with entries.
 fn take_array(
     alloc: Global,
@@ -266,10 +276,12 @@ fn take_array(
     let ids = ids_of(alloc, entries.as_slice())?;
     put_batch(protocol, findings, message, entries.as_slice())?;
     let has_huge = have_huge(entries.as_slice());
+    let before = own.owed.len();
     own.owed
         .open(message.number, message.offset, true, has_huge)?;
     take_entries(protocol, findings, message, own, entries.into_vec())?;
     own.owed.close();
+    count_array(own, before);
     let owed = &mut other.owed;
     put_answers(
         alloc,
@@ -398,7 +410,7 @@ pub(crate) fn take_content(
 {
     let reading = reader.read(frame.foreign, frame.content.as_slice())?;
     own.count = own.count.saturating_add(1);
-    own.refused = own.refused.min(own.owed.len());
+    own.refusals.refused = own.refusals.refused.min(own.owed.len());
     let message = Message {
         side,
         number: own.count,

@@ -12,7 +12,7 @@ use crate::contents::take_content;
 use content_streams::{ContentStream, HowEnded, StreamEnd, placed_contents_are_the_contents};
 use conversation_entries::{Speaker, is_mcp, put_if};
 use conversation_reading::StrictReader;
-use conversation_rules::{Finding, Level, Message, Protocol, Rule, Side, Unanswered};
+use conversation_rules::{Finding, Level, Message, Protocol, Refusals, Rule, Side, Unanswered};
 use lsp_frames::FrameFault;
 use std::alloc::{AllocError, Global};
 
@@ -225,10 +225,10 @@ fn put_each_unanswered(
     requests: &[Unanswered],
 ) -> Result<(), AllocError>
     ensures { OnOk result (findings.new.items ≡ findings.old.items
-        ++ map (rules.unanswered_finding side how is_broken) (may_be_refused asker.now.refused 0
+        ++ map (rules.unanswered_finding side how is_broken) (may_be_refused asker.now.refusals.refused 0
         (map (maybe_answered asker.now.unsure_up_to) requests.now))) }
 {
-    let mut refused = asker.refused;
+    let mut refused = asker.refusals.refused;
     let mut number = 0;
     for request in requests {
         if refused > 0 && request.number != number {
@@ -319,7 +319,10 @@ fn take_end(
     put_unanswered(protocol, side, how, findings, own, other)?;
     own.has_ended = true;
     other.owed.clear();
-    other.refused = 0;
+    other.refusals = Refusals {
+        refused: 0,
+        unowed: 0,
+    };
     Ok(())
 }
 

@@ -7,11 +7,11 @@ use Rattle.conversation_reading.specs.declared.entry.WrittenId.{WrittenId}
 use Rattle.conversation_rules.specs.Amounts.{is_null}
 use Rattle.conversation_rules.specs.Dues as dues
 use Rattle.conversation_rules.specs.Dues.{may_be_refused, has_cancelled, settled, settled_batch, array_target, found_batch, unreadable_target}
-use Rattle.conversation_rules.specs.Entries.{is_well, is_between, code_of}
+use Rattle.conversation_rules.specs.Entries.{is_well, is_between, code_of, may_lack_id}
 use Rattle.conversation_rules.specs.Matching.{named_target, null_target, parse_error_target}
 use Rattle.conversation_rules.specs.Owed.{Due}
-use Rattle.conversation_rules.specs.Protocols.{has_batches, is_lsp, is_mcp}
-use Rattle.conversation_rules.specs.Speakers.{found, found_if}
+use Rattle.conversation_rules.specs.Protocols.{is_lsp, is_mcp}
+use Rattle.conversation_rules.specs.Speakers.{found, found_if, one_less}
 use Rattle.conversation_rules.specs.declared.finding.Finding.{Finding}
 use Rattle.conversation_rules.specs.declared.finding.Message.{Message}
 use Rattle.conversation_rules.specs.declared.finding.Rule.TheVariants as rules
@@ -22,6 +22,7 @@ use Rattle.conversation_rules.specs.declared.found.Target.{Target}
 use Rattle.conversation_rules.specs.declared.level.Level.{Level}
 use Rattle.conversation_rules.specs.declared.level.Level.TheVariants.{Must, Should, Note}
 use Rattle.conversation_rules.specs.declared.protocol.Protocol.{Protocol}
+use Rattle.conversation_rules.specs.declared.reply.Refusals.{Refusals}
 use Rattle.conversation_rules.specs.declared.reply.Reply.{Reply}
 use Rattle.conversation_rules.specs.declared.reply.Sight.{Sight}
 use Rattle.conversation_rules.specs.declared.reply.Stray.{Stray}
@@ -33,9 +34,13 @@ says_cancelled entry = option_map_or (is_between 32800 32800) (code_of entry) fa
 abbrev pub is_uncalled : Protocol → List Due → Entry → Bool
 is_uncalled protocol owed entry = is_lsp protocol && says_cancelled entry && not (option_map_or (λ id. has_cancelled id owed) entry.id false)
 
+-- it is under the id null: an answer by all rules, or an error that may be without an id
+abbrev pub may_refuse : Protocol → Entry → Bool
+may_refuse protocol entry = (is_well entry.kind && option_map_or is_null entry.id false) || may_lack_id protocol entry.there
+
 -- what is looked at of an answer that stands at a place, beside its id
 abbrev pub reply_of : Protocol → List Due → ℕ → Entry → Reply
-reply_of protocol owed at entry = record { at = at; is_well = is_well entry.kind; has_error = entry.there.error; is_null = option_map_or is_null entry.id false; code = code_of entry; is_uncalled = is_uncalled protocol owed entry }
+reply_of protocol owed at entry = record { at = at; is_well = is_well entry.kind; may_refuse = may_refuse protocol entry; code = code_of entry; is_uncalled = is_uncalled protocol owed entry }
 
 abbrev pub has_code : ℕ → Reply → Bool
 has_code size reply = option_map_or (is_between size size) reply.code false
@@ -81,38 +86,43 @@ not_owed_findings sight message strays owed = if are_told strays then each_not_o
 abbrev pub behind_not_owed : List Stray → List Due → List Due
 behind_not_owed strays owed = if are_told strays then settled (unreadable_target owed) owed else owed
 
--- ---- an error with the id null, alone, that fits nothing. Its side may have refused a content whole for its limits: a batch,
+-- ---- an answer with the id null, alone, that fits nothing. Its side may have refused a content whole for its limits: a batch,
 -- as one of too many entries (JSON-RPC 2.0, section 6: a batch that isn't recognized is answered by a single response), or one
--- that nests deep (RFC 8259, section 9). Which one isn't known, so all stay owed, and each such error counts for one of those
--- that are.
+-- that nests deep (RFC 8259, section 9). Which one isn't known, so all stay owed. Each such answer counts for one of those that
+-- are open, or else for an array on which nothing is owed. An answer that is no error counts too: an error may have taken what
+-- it is for.
 
-abbrev pub is_refusal : Reply → Bool
-is_refusal reply = reply.is_well && (reply.has_error && reply.is_null)
+abbrev pub refuses_open : Refusals → List Due → Bool
+refuses_open refusals owed = may_be_refused owed && nat_lt refusals.refused (length owed)
 
-abbrev pub refuses : ℕ → Reply → List Due → Bool
-refuses refused reply owed = is_refusal reply && (not (is_some (unreadable_target owed)) && (may_be_refused owed && nat_lt refused (length owed)))
+abbrev pub refuses : Sight → Reply → List Due → Bool
+refuses sight reply owed = reply.may_refuse && (refuses_open sight.refusals owed || not (sight.refusals.unowed == 0))
 
 abbrev pub unfit_findings : Sight → Message → Reply → List Due → List Finding
-unfit_findings sight message reply owed = if refuses sight.refused reply owed then found message reply.at rules.NotOwed Note ∷ [] else not_owed_findings sight message (stray_of reply ∷ []) owed
+unfit_findings sight message reply owed = if refuses sight reply owed then found_if reply.is_well (found message reply.at rules.NotOwed Note) else not_owed_findings sight message (stray_of reply ∷ []) owed
 
-abbrev pub refused_by : ℕ → Reply → List Due → ℕ
-refused_by refused reply owed = if refuses refused reply owed then suc refused else refused
+abbrev pub one_refused : Refusals → List Due → Refusals
+one_refused refusals owed = if refuses_open refusals owed then record refusals { refused = suc refusals.refused } else record refusals { unowed = one_less refusals.unowed }
+
+abbrev pub refused_by : Sight → Reply → List Due → Refusals
+refused_by sight reply owed = if refuses sight reply owed then one_refused sight.refusals owed else sight.refusals
 
 -- ---- a single answer
 
-abbrev pub may_refuse : Protocol → Reply → Bool
-may_refuse protocol reply = not (has_batches protocol) && reply.has_error
+-- it may be for a content that is refused whole, or that couldn't be read
+abbrev pub is_unsure : Sight → Reply → List Due → Bool
+is_unsure sight reply owed = refuses sight reply owed || (reply.may_refuse && is_some (unreadable_target owed))
 
 -- with the id null
-abbrev pub target_of_null : Protocol → Reply → List Due → Option Target
-target_of_null protocol reply owed = if has_code 32700 reply then parse_error_target (may_refuse protocol reply) owed else null_target (has_code 32600 reply) (may_refuse protocol reply) owed
+abbrev pub target_of_null : Sight → Reply → List Due → Option Target
+target_of_null sight reply owed = if has_code 32700 reply then parse_error_target (is_unsure sight reply owed) owed else null_target (has_code 32600 reply) (is_unsure sight reply owed) owed
 
-abbrev pub target_of_id : Protocol → Reply → List Due → WrittenId → Option Target
-target_of_id protocol reply owed id = if is_null id then target_of_null protocol reply owed else named_target id owed
+abbrev pub target_of_id : Sight → Reply → List Due → WrittenId → Option Target
+target_of_id sight reply owed id = if is_null id then target_of_null sight reply owed else named_target id owed
 
 -- with an id that can't be read it fits nothing
-abbrev pub target_of : Protocol → Reply → Option WrittenId → List Due → Option Target
-target_of protocol reply id owed = option_map_or (target_of_id protocol reply owed) id None
+abbrev pub target_of : Sight → Reply → Option WrittenId → List Due → Option Target
+target_of sight reply id owed = option_map_or (target_of_id sight reply owed) id None
 
 abbrev pub single_fit_findings : Protocol → Sight → Message → Reply → Fit → List Finding
 single_fit_findings protocol sight message reply fit =
@@ -124,25 +134,29 @@ single_findings_of protocol sight message reply rest None = unfit_findings sight
 single_findings_of protocol sight message reply rest (Some Whole) = []
 single_findings_of protocol sight message reply rest (Some (EntryFit fit)) = single_fit_findings protocol sight message reply fit
 
-abbrev pub rest_of : Protocol → Reply → Option WrittenId → List Due → List Due
-rest_of protocol reply id owed = settled (target_of protocol reply id owed) owed
+abbrev pub rest_of : Sight → Reply → Option WrittenId → List Due → List Due
+rest_of sight reply id owed = settled (target_of sight reply id owed) owed
 
 abbrev pub single_findings : Protocol → Sight → Message → Reply → Option WrittenId → List Due → List Finding
-single_findings protocol sight message reply id owed = single_findings_of protocol sight message reply (rest_of protocol reply id owed) (dues.found (target_of protocol reply id owed) owed)
+single_findings protocol sight message reply id owed = single_findings_of protocol sight message reply (rest_of sight reply id owed) (dues.found (target_of sight reply id owed) owed)
 
-abbrev pub behind_found : Reply → List Due → Option Found → List Due
-behind_found reply rest None = behind_not_owed (stray_of reply ∷ []) rest
-behind_found reply rest (Some found) = rest
+-- what refuses a content settles none
+abbrev pub behind_unfit : Sight → Reply → List Due → List Due
+behind_unfit sight reply owed = if refuses sight reply owed then owed else behind_not_owed (stray_of reply ∷ []) owed
 
-abbrev pub refused_behind : ℕ → Reply → List Due → Option Found → ℕ
-refused_behind refused reply rest None = refused_by refused reply rest
-refused_behind refused reply rest (Some found) = refused
+abbrev pub behind_found : Sight → Reply → List Due → Option Found → List Due
+behind_found sight reply rest None = behind_unfit sight reply rest
+behind_found sight reply rest (Some found) = rest
 
-abbrev pub refused_behind_single : Protocol → ℕ → Reply → Option WrittenId → List Due → ℕ
-refused_behind_single protocol refused reply id owed = refused_behind refused reply (rest_of protocol reply id owed) (dues.found (target_of protocol reply id owed) owed)
+abbrev pub refused_behind : Sight → Reply → List Due → Option Found → Refusals
+refused_behind sight reply rest None = refused_by sight reply rest
+refused_behind sight reply rest (Some found) = sight.refusals
 
-abbrev pub behind_single : Protocol → Reply → Option WrittenId → List Due → List Due
-behind_single protocol reply id owed = behind_found reply (rest_of protocol reply id owed) (dues.found (target_of protocol reply id owed) owed)
+abbrev pub refused_behind_single : Sight → Reply → Option WrittenId → List Due → Refusals
+refused_behind_single sight reply id owed = refused_behind sight reply (rest_of sight reply id owed) (dues.found (target_of sight reply id owed) owed)
+
+abbrev pub behind_single : Sight → Reply → Option WrittenId → List Due → List Due
+behind_single sight reply id owed = behind_found sight reply (rest_of sight reply id owed) (dues.found (target_of sight reply id owed) owed)
 
 -- ---- the answers of an array that is a batch's, each with the entry that it takes
 

@@ -1,5 +1,5 @@
 -- What a content breaks, and what is kept of it.
-use Rattle.std.specs.Prelude.{ℕ, suc, ◌+◌, ◌&&◌, ◌||◌, not, List, [], ◌∷◌, ◌++◌, length, min, Bool, true, false, Option, Some, None, if◌then◌else◌}
+use Rattle.std.specs.Prelude.{ℕ, suc, ◌+◌, ◌&&◌, ◌||◌, not, List, [], ◌∷◌, ◌++◌, length, ◌==◌, min, Bool, true, false, Option, Some, None, if◌then◌else◌}
 use Rattle.std.specs.List.{list_all, list_any}
 use Rattle.std.specs.Option.{option_map_or}
 use Rattle.lsp_frames.specs.declared.frame.Frame.{Frame}
@@ -16,7 +16,7 @@ use Rattle.conversation_rules.specs.Dues.{closed, owed_more}
 use Rattle.conversation_rules.specs.Entries.{is_answer, answer_id, entry_findings, behind_entry}
 use Rattle.conversation_rules.specs.Owed.{Due, new_due, unreadable_due, empty_array_owed}
 use Rattle.conversation_rules.specs.Protocols.{batch_level}
-use Rattle.conversation_rules.specs.Speakers.{Speaker, Pair, found, found_if}
+use Rattle.conversation_rules.specs.Speakers.{Speaker, Pair, found, found_if, one_more}
 use Rattle.conversation_rules.specs.declared.finding.Finding.{Finding}
 use Rattle.conversation_rules.specs.declared.finding.Message.{Message}
 use Rattle.conversation_rules.specs.declared.finding.Rule.{Rule}
@@ -49,7 +49,7 @@ unreadable message pair rule level = record { findings = found message 0 rule le
 -- ---- a content that is read
 
 abbrev pub sight_of : Pair → Sight
-sight_of pair = record { is_broken = pair.own.is_over || pair.other.is_over; has_unreadable = pair.other.has_unreadable; refused = pair.other.refused }
+sight_of pair = record { is_broken = pair.own.is_over || pair.other.is_over; has_unreadable = pair.other.has_unreadable; refusals = pair.other.refusals }
 
 -- what is owed on it stands last, and is added to entry by entry
 abbrev pub opened : Message → Bool → Bool → Speaker → Speaker
@@ -65,8 +65,8 @@ single_own protocol message entry own = shut (behind_entry protocol 0 entry (ope
 
 abbrev pub single_other : Protocol → Sight → Entry → Speaker → Speaker
 single_other protocol sight entry other = record other {
-  owed = if is_answer entry.kind then behind_single protocol (reply_of protocol other.owed 0 entry) (answer_id protocol entry) other.owed else other.owed;
-  refused = if is_answer entry.kind then refused_behind_single protocol sight.refused (reply_of protocol other.owed 0 entry) (answer_id protocol entry) other.owed else other.refused;
+  owed = if is_answer entry.kind then behind_single sight (reply_of protocol other.owed 0 entry) (answer_id protocol entry) other.owed else other.owed;
+  refusals = if is_answer entry.kind then refused_behind_single sight (reply_of protocol other.owed 0 entry) (answer_id protocol entry) other.owed else other.refusals;
 }
 
 abbrev pub single_answer_findings : Protocol → Sight → Message → Entry → Speaker → List Finding
@@ -119,6 +119,10 @@ reply_ids (entry ∷ entries) = if is_answer entry.kind then entry.id ∷ reply_
 abbrev pub have_huge : List Entry → Bool
 have_huge entries = list_any (λ entry. entry.has_huge) entries
 
+-- An array on which nothing is open is kept as a number: it may be refused whole all the same. `own` is the side before it.
+abbrev pub counted_array : Speaker → Speaker → Speaker
+counted_array own after = record after { refusals = if length after.owed == length own.owed then record after.refusals { unowed = one_more after.refusals.unowed } else after.refusals }
+
 abbrev pub array_outcome : Protocol → Message → List Entry → Pair → Outcome
 array_outcome protocol message entries pair =
     let own = opened message true (have_huge entries) pair.own in
@@ -127,7 +131,7 @@ array_outcome protocol message entries pair =
       findings = batch_findings protocol message entries ++ entries_findings protocol message 1 entries own
           ++ answers_findings protocol (sight_of pair) message (are_answers entries) replies (reply_ids entries) pair.other.owed;
       pair = record {
-        own = shut (behind_entries protocol 1 entries own);
+        own = counted_array pair.own (shut (behind_entries protocol 1 entries own));
         other = record pair.other { owed = behind_answers protocol (sight_of pair) message replies (reply_ids entries) pair.other.owed };
       };
     }
@@ -156,11 +160,11 @@ reading_outcome protocol is_unfinished message pair (Array entries) = behind_lin
 -- ---- any content: the next of its side's stream, which begins at this offset
 
 abbrev pub next_number : Speaker → ℕ
-next_number own = capped (own.count + 1)
+next_number own = one_more own.count
 
 -- no more may have been refused than is open by now
 abbrev pub counted : Pair → Pair
-counted pair = record pair { own = record pair.own { count = next_number pair.own; refused = min pair.own.refused (length pair.own.owed) } }
+counted pair = record pair { own = record pair.own { count = next_number pair.own; refusals = record pair.own.refusals { refused = min pair.own.refusals.refused (length pair.own.owed) } } }
 
 abbrev pub next_message : Side → ℕ → Pair → Message
 next_message side place pair = record { side = side; number = next_number pair.own; offset = capped place }

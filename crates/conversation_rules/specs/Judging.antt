@@ -14,7 +14,7 @@ use Rattle.conversation_rules.specs.Answers.{or_note}
 use Rattle.conversation_rules.specs.Contents.{Outcome, content_outcome, next_message}
 use Rattle.conversation_rules.specs.Dues.{unanswered}
 use Rattle.conversation_rules.specs.Protocols.{is_mcp}
-use Rattle.conversation_rules.specs.Speakers.{Speaker, Pair, new_speaker, found}
+use Rattle.conversation_rules.specs.Speakers.{Speaker, Pair, new_speaker, none_refused, found}
 use Rattle.conversation_rules.specs.declared.finding.Finding.{Finding}
 use Rattle.conversation_rules.specs.declared.finding.Limits.{Limits}
 use Rattle.conversation_rules.specs.declared.finding.Rule.{Rule}
@@ -174,7 +174,7 @@ may_be_refused refused number (request ∷ requests) =
     ])
 
 abbrev pub left_unanswered : Speaker → List Unanswered
-left_unanswered asker = may_be_refused asker.refused 0 (map (maybe_answered asker.unsure_up_to) (unanswered asker.owed))
+left_unanswered asker = may_be_refused asker.refusals.refused 0 (map (maybe_answered asker.unsure_up_to) (unanswered asker.owed))
 
 abbrev pub unanswered_findings : Protocol → Side → HowEnded → Pair → List Finding
 unanswered_findings protocol side how pair = if is_excused protocol side pair then [] else map (unanswered_finding side how (pair.own.is_over || pair.other.is_over)) (left_unanswered pair.other)
@@ -185,7 +185,7 @@ ended_findings protocol side how stream pair =
     contents_findings protocol side true (new_contents stream) pair ++ fault_findings side stream last ++ unanswered_findings protocol side how last
 
 abbrev pub ended_pair : Pair → Pair
-ended_pair pair = record { own = record pair.own { has_ended = true }; other = record pair.other { owed = []; refused = 0 } }
+ended_pair pair = record { own = record pair.own { has_ended = true }; other = record pair.other { owed = []; refusals = none_refused } }
 
 abbrev pub behind_ended : Protocol → Side → Stream → Pair → Pair
 behind_ended protocol side stream pair = ended_pair (behind_contents protocol side true (new_contents stream) pair)

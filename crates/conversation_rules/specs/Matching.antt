@@ -1,6 +1,6 @@
 -- Which of what is owed an answer is for. What is owed is listed by contents, the oldest first.
 use Rattle.std.specs.Prelude.{◌≡◌, ℕ, suc, ◌&&◌, ◌||◌, not, nat_le, List, [], ◌∷◌, ◌++◌, filter, count_by, position, remove, Bool, true, false, Option, Some, None, option_map, option_and_then, IsSomeAnd, slice_get, if◌then◌else◌}
-use Rattle.std.specs.List.{filter_map}
+use Rattle.std.specs.List.{list_any, filter_map}
 use Rattle.std.specs.Option.{option_map_or}
 use Rattle.conversation_reading.specs.declared.entry.WrittenId.{WrittenId}
 use Rattle.conversation_rules.specs.Amounts.{same_id, is_null}
@@ -55,28 +55,26 @@ abbrev pub is_unnamed : Owed → Bool
 is_unnamed owed = is_null_other owed && option_map_or is_null owed.own true
 
 -- -32600 says that an entry is invalid; all else is rather an answer to a request
+abbrev pub expects_null_in : Bool → Bool → List Due → Option Target
+expects_null_in true batches dues = or_else (oldest batches is_null_other dues) (oldest batches is_null_request dues)
+expects_null_in false batches dues = or_else (oldest batches is_null_request dues) (oldest batches is_null_other dues)
+
 abbrev pub null_in : Bool → Bool → List Due → Option Target
-null_in true batches dues = or_else (oldest batches is_null_other dues) (or_else (oldest batches is_null_request dues) (oldest batches (λ owed. owed.may_be_null) dues))
-null_in false batches dues = or_else (oldest batches is_null_request dues) (or_else (oldest batches is_null_other dues) (oldest batches (λ owed. owed.may_be_null) dues))
+null_in says_invalid batches dues = or_else (expects_null_in says_invalid batches dues) (oldest batches (λ owed. owed.may_be_null) dues)
 
--- where the rules have no batches, an error may refuse a whole one
-abbrev pub refused_batch : Bool → List Due → Option Target
-refused_batch false dues = None
-refused_batch true dues = option_map WholeOf (position (λ due. due.is_batch) dues)
-
+-- Where it may be for a content that is refused whole, or that couldn't be read, it takes only what stands alone and expects it.
 abbrev pub null_target : Bool → Bool → List Due → Option Target
-null_target says_invalid may_refuse dues = or_else (null_in says_invalid false dues) (or_else (refused_batch may_refuse dues) (null_in says_invalid true dues))
+null_target says_invalid is_unsure dues = if is_unsure then expects_null_in says_invalid false dues else or_else (null_in says_invalid false dues) (null_in says_invalid true dues)
 
--- -32700: an unreadable content, else a request with the id null, else a content with a number beyond a float's range (RFC
--- 8259, section 6: a reader may have limits), else what is invalid and has no id but null, and needn't be answered; all these
--- alone. Then a batch that is refused, or a request with the id null in one.
+-- -32700: an unreadable content, else a request with the id null, else what is invalid and has no id but null, and needn't be
+-- answered; all these alone. What is invalid and has an id was read: it is taken only where no content may be refused whole. And
+-- where what a reader may limit is open (RFC 8259, section 9), -32700 is for that rather than for what may be left.
 abbrev pub parse_error_target : Bool → List Due → Option Target
-parse_error_target may_refuse dues =
+parse_error_target is_unsure dues =
     or_else (option_map WholeOf (position (λ due. due.is_unreadable) dues))
     (or_else (oldest false is_null_request dues)
-    (or_else (option_map WholeOf (position (λ due. due.has_huge) dues))
-    (or_else (oldest false is_unnamed dues)
-    (or_else (refused_batch may_refuse dues) (oldest true is_null_request dues)))))
+    (if is_unsure && list_any (λ due. due.has_huge) dues then None
+    else or_else (oldest false is_unnamed dues) (if is_unsure then None else oldest false is_null_other dues)))
 
 -- ---- the answers in an array
 

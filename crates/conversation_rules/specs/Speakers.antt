@@ -1,11 +1,13 @@
 -- What is kept of a side.
-use Rattle.std.specs.Prelude.{ℕ, List, [], Bool, true, false, ◌∷◌}
+use Rattle.std.specs.Prelude.{ℕ, ◌+◌, ◌-◌, ◌^◌, ◌==◌, List, [], Bool, true, false, ◌∷◌, if◌then◌else◌}
+use Rattle.content_streams.specs.Streams.{capped}
 use Rattle.conversation_rules.specs.Owed.{Due}
 use Rattle.conversation_rules.specs.Used.{Used, none_used}
 use Rattle.conversation_rules.specs.declared.finding.Finding.{Finding}
 use Rattle.conversation_rules.specs.declared.finding.Message.{Message}
 use Rattle.conversation_rules.specs.declared.finding.Rule.{Rule}
 use Rattle.conversation_rules.specs.declared.level.Level.{Level}
+use Rattle.conversation_rules.specs.declared.reply.Refusals.{Refusals}
 
 pub record Speaker : Type 0 where
   -- how many contents it has
@@ -15,8 +17,8 @@ pub record Speaker : Type 0 where
   -- A content of the other side couldn't be read, and may have been the answer to what is owed on this content, or on an
   -- older one: its number, or 0.
   pub unsure_up_to : ℕ
-  -- how many errors with the id null the other side sent that fitted nothing, and may have refused what is owed
-  pub refused : ℕ
+  -- what the other side may have refused of it
+  pub refusals : Refusals
   -- the ids that its requests had, and those of `initialize`
   pub used : Used
   pub initialize : Used
@@ -28,8 +30,18 @@ pub record Speaker : Type 0 where
   pub is_over : Bool
   pub has_ended : Bool
 
+abbrev pub none_refused : Refusals
+none_refused = record { refused = 0; unowed = 0 }
+
+-- a count that has reached the largest of 64 bits stays there
+abbrev pub one_more : ℕ → ℕ
+one_more count = capped (count + 1)
+
+abbrev pub one_less : ℕ → ℕ
+one_less count = if count == 2 ^ 64 - 1 then count else count - 1
+
 abbrev pub new_speaker : ℕ → Speaker
-new_speaker most = record { count = 0; owed = []; unsure_up_to = 0; refused = 0; used = none_used most; initialize = none_used most; has_exited = false; has_unreadable = false; is_over = false; has_ended = false }
+new_speaker most = record { count = 0; owed = []; unsure_up_to = 0; refusals = none_refused; used = none_used most; initialize = none_used most; has_exited = false; has_unreadable = false; is_over = false; has_ended = false }
 
 -- the side that is seen, and the other one
 pub record Pair : Type 0 where

@@ -82,23 +82,22 @@ pub fn null_answers()
         (single (request (codes "7")) ∷ single (number (codes "1")) ∷ []) ≡ Some (EntryOf 1 0) }
     ensures request_is_named { null_target false false (single (request (codes "7")) ∷ []) ≡ None }
     ensures unreadable { parse_error_target false (unreadable_due 1 0 ∷ []) ≡ Some (WholeOf 0) }
-    ensures good_json { parse_error_target true (single (old_request (codes "7")) ∷ []) ≡ None }
+    ensures named { parse_error_target false (single (old_request (codes "7")) ∷ []) ≡ Some (EntryOf 0 0) }
+    ensures named_and_unsure { parse_error_target true (single (old_request (codes "7")) ∷ []) ≡ None }
     ensures unnamed { parse_error_target false (single (number (codes "1")) ∷ []) ≡ Some (EntryOf 0 0) }
     ensures null_call { parse_error_target false (single null_call ∷ []) ≡ Some (EntryOf 0 0) }
     ensures null_request_first { parse_error_target false
         (single (number (codes "1")) ∷ single null_request ∷ []) ≡ Some (EntryOf 1 0) }
-    ensures huge_first { parse_error_target false
-        (single (number (codes "1")) ∷ huge (request (codes "7")) ∷ []) ≡ Some (WholeOf 1) }
-    ensures batch_last { parse_error_target false
-        (batch null_request (request (codes "7")) ∷ single (number (codes "1")) ∷ []) ≡ Some (EntryOf 1 0) }
-    ensures in_a_batch { parse_error_target false (batch (request (codes "7")) null_request ∷ [])
-        ≡ Some (EntryOf 0 1) }
-    ensures unreadable_batch { parse_error_target true (batch (request (codes "7")) null_request ∷ [])
-        ≡ Some (WholeOf 0) }
-    ensures refused_batch { null_target true true
-        (batch (request (codes "7")) (request (codes "8")) ∷ []) ≡ Some (WholeOf 0) }
-    ensures batches_are_known { null_target true false
-        (batch (request (codes "7")) (request (codes "8")) ∷ []) ≡ None }
+    ensures unnamed_first { parse_error_target false
+        (single (old_request (codes "7")) ∷ single (number (codes "1")) ∷ []) ≡ Some (EntryOf 1 0) }
+    ensures huge_first { parse_error_target true
+        (single (number (codes "1")) ∷ huge (request (codes "7")) ∷ []) ≡ None }
+    ensures huge_stays { parse_error_target false (huge (request (codes "7")) ∷ []) ≡ None }
+    ensures batch_stays { parse_error_target false (batch (request (codes "7")) null_request ∷ []) ≡ None }
+    ensures in_a_batch { null_target true false (batch (request (codes "7")) null_request ∷ []) ≡ Some (EntryOf 0 1) }
+    ensures in_a_batch_and_unsure { null_target true true (batch (request (codes "7")) null_request ∷ []) ≡ None }
+    ensures may_be_null { null_target true false (single (request_without_params (codes "7")) ∷ []) ≡ Some (EntryOf 0 0) }
+    ensures may_be_null_and_unsure { null_target true true (single (request_without_params (codes "7")) ∷ []) ≡ None }
 {}
 
 /// The answers in an array are for the batch from which just these ids are expected, else for one that they can answer.

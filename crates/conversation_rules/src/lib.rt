@@ -19,7 +19,7 @@ pub use law::{
 };
 pub use level::Level;
 pub use protocol::Protocol;
-pub use reply::{Reply, Sight, Stray};
+pub use reply::{Refusals, Reply, Sight, Stray};
 pub use side::Side;
 pub use worked::{
     answers_in_arrays, answers_that_are_owed, answers_that_may_come, cancels,

@@ -7,10 +7,9 @@ pub struct Reply {
     pub at: u64,
     /// Whether it is an answer by all rules.
     pub is_well: bool,
-    /// Whether it has a member `error`.
-    pub has_error: bool,
-    /// Whether its id is null.
-    pub is_null: bool,
+    /// Whether it may refuse a content whole: it is under the id null, as an answer by all rules, or as an error that may be
+    /// without an id.
+    pub may_refuse: bool,
     /// The code of its error, where that is a whole number whose size is below 2^64.
     pub code: Option<Whole>,
     /// Whether it says that its request was cancelled, where no cancel of it was seen.
@@ -33,6 +32,16 @@ pub struct Sight {
     pub is_broken: bool,
     /// Whether a content of the side that asked couldn't be read.
     pub has_unreadable: bool,
-    /// How many errors with the id null its side sent that fitted nothing, and may have refused what is still owed.
+    /// What its side may have refused.
+    pub refusals: Refusals,
+}
+
+/// What a side may have refused whole, by answers with the id null.
+#[derive(Debug, Clone, Copy, PartialEq, Eq)]
+pub struct Refusals {
+    /// How many of them fitted nothing, and may have refused what is still owed.
     pub refused: u64,
+    /// How many arrays of the other side on which nothing is owed may still be refused: 2^64 - 1 stands for any number from
+    /// there on.
+    pub unowed: u64,
 }

@@ -55,10 +55,10 @@ pub fn answers_that_may_come()
         ≡ tells Server rules.Outcome Must 1 0 ∷ [] }
 {}
 
-/// What is JSON and has an id isn't answered as unreadable.
+/// A request with an id isn't answered as unreadable. What is no request may be.
 pub fn good_json()
     ensures invalid { told JsonRpc (says Client (no_method (codes "7")) ∷ says Server (null_answer (codes "-32700")) ∷ [])
-        ≡ tells Client rules.Method Must 1 0 ∷ tells Server rules.NotOwed Must 1 0 ∷ [] }
+        ≡ tells Client rules.Method Must 1 0 ∷ [] }
     ensures request { told JsonRpc (says Client (text_request (codes "7")) ∷ says Server (null_answer (codes "-32700")) ∷ [])
         ≡ tells Server rules.NotOwed Must 1 0 ∷ [] }
 {}
@@ -69,14 +69,15 @@ pub fn contents_that_are_refused()
         ∷ ends Server Closed ∷ [])
         ≡ tells Server rules.NotOwed Note 1 0 ∷ tells Server rules.NotOwed Must 2 0 ∷ tells Server rules.Unanswered Note 1 0 ∷ [] }
     ensures deep_as_unreadable { told JsonRpc (says Client (deep_request 31 (codes "7")) ∷ says Server (null_answer (codes "-32700"))
-        ∷ says Server (null_answer (codes "-32700")) ∷ ends Server Closed ∷ []) ≡ tells Server rules.NotOwed Must 2 0 ∷ [] }
+        ∷ says Server (null_answer (codes "-32700")) ∷ ends Server Closed ∷ [])
+        ≡ tells Server rules.NotOwed Note 1 0 ∷ tells Server rules.NotOwed Must 2 0 ∷ tells Server rules.Unanswered Note 1 0 ∷ [] }
     ensures less_deep { told JsonRpc (says Client (deep_request 30 (codes "7")) ∷ says Server (null_answer (codes "-32700")) ∷ ends Server Closed ∷ [])
         ≡ tells Server rules.NotOwed Must 1 0 ∷ tells Server rules.Unanswered Must 1 0 ∷ [] }
     ensures nothing { told JsonRpc (says Server (null_answer (codes "5")) ∷ says Client (array_of (request (codes "7") ∷ [])) ∷ ends Server Closed ∷ [])
         ≡ tells Server rules.NotOwed Must 1 0 ∷ tells Server rules.Unanswered Must 1 1 ∷ [] }
     ensures by_a_result { told JsonRpc (says Client (array_of (request (codes "7") ∷ []))
         ∷ says Server (message ((codes "id", null) ∷ outcome ∷ [])) ∷ ends Server Closed ∷ [])
-        ≡ tells Server rules.NotOwed Must 1 0 ∷ tells Server rules.Unanswered Must 1 1 ∷ [] }
+        ≡ tells Server rules.NotOwed Note 1 0 ∷ tells Server rules.Unanswered Note 1 1 ∷ [] }
     ensures batch { told JsonRpc (says Client (array_of (request (codes "7") ∷ request (codes "8") ∷ []))
         ∷ says Server (null_answer (codes "-32600")) ∷ says Server (null_answer (codes "5")) ∷ ends Server Closed ∷ [])
         ≡ tells Server rules.NotOwed Note 1 0 ∷ tells Server rules.NotOwed Must 2 0
@@ -90,10 +91,19 @@ pub fn contents_that_are_refused()
     ensures answered_all_the_same { told JsonRpc (says Client (array_of (request (codes "7") ∷ [])) ∷ says Server (null_answer (codes "5"))
         ∷ says Server (array_of (answer (codes "7") ∷ [])) ∷ says Client (array_of (request (codes "8") ∷ [])) ∷ ends Server Closed ∷ [])
         ≡ tells Server rules.NotOwed Note 1 0 ∷ tells Server rules.Unanswered Must 2 1 ∷ [] }
-    ensures unreadable_first { told JsonRpc (says Client (array_of (request (codes "7") ∷ [])) ∷ babbles Client ∷ says Server (null_answer (codes "5"))
+    ensures unreadable_too { told JsonRpc (says Client (array_of (request (codes "7") ∷ [])) ∷ babbles Client ∷ says Server (null_answer (codes "5"))
         ∷ says Server (null_answer (codes "5")) ∷ ends Server Closed ∷ [])
         ≡ tells Client rules.NotJson Must 2 0 ∷ tells Server rules.NotOwed Note 1 0 ∷ tells Server rules.NotOwed Note 2 0
         ∷ tells Server rules.Unanswered Note 1 1 ∷ [] }
+    ensures place_of_another { told JsonRpc (says Client null_request ∷ says Client (array_of (request (codes "7") ∷ []))
+        ∷ says Server (null_answer (codes "-32600")) ∷ says Server (message ((codes "id", null) ∷ outcome ∷ [])) ∷ [])
+        ≡ tells Client rules.IdNull Should 1 0 ∷ tells Server rules.NotOwed Note 2 0 ∷ [] }
+    ensures silent_array { told JsonRpc (says Client (array_of (notification (codes "a") ∷ [])) ∷ says Server (null_answer (codes "5"))
+        ∷ says Server (null_answer (codes "5")) ∷ [])
+        ≡ tells Server rules.NotOwed Note 1 0 ∷ tells Server rules.NotOwed Must 2 0 ∷ [] }
+    ensures array_of_answers { told JsonRpc (says Client (request (codes "7")) ∷ says Server (array_of (answer (codes "7") ∷ []))
+        ∷ says Client (null_answer (codes "5")) ∷ says Client (null_answer (codes "5")) ∷ [])
+        ≡ tells Server rules.NotAsArray Should 1 0 ∷ tells Client rules.NotOwed Note 2 0 ∷ tells Client rules.NotOwed Must 3 0 ∷ [] }
 {}
 
 /// The answers of a batch are one array (JSON-RPC 2.0, section 6).
@@ -135,7 +145,8 @@ pub fn answers_in_arrays()
         ≡ tells Client rules.Batch Note 1 0 ∷ [] }
     ensures refused { told Mcp (says Client (array_of (request (codes "7") ∷ request (codes "8") ∷ []))
         ∷ says Server (null_answer (codes "-32600")) ∷ ends Server Closed ∷ [])
-        ≡ tells Client rules.Batch Must 1 0 ∷ [] }
+        ≡ tells Client rules.Batch Must 1 0 ∷ tells Server rules.NotOwed Note 1 0
+        ∷ tells Server rules.Unanswered Note 1 1 ∷ tells Server rules.Unanswered Note 1 2 ∷ [] }
 {}
 
 /// Ids of requests (JSON-RPC 2.0, section 4; LSP 3.17, Request Message; MCP, messages).
@@ -180,9 +191,9 @@ pub fn members_that_stand_twice()
         ≡ tells Client rules.Twice Should 1 0 ∷ tells Server rules.NotOwed Must 2 0 ∷ [] }
     ensures left { told JsonRpc (says Client two_ids ∷ ends Server Closed ∷ []) ≡ tells Client rules.Twice Should 1 0 ∷ [] }
     ensures refused { told JsonRpc (says Client two_ids ∷ says Server (null_answer (codes "-32700")) ∷ says Server (null_answer (codes "-32700")) ∷ [])
-        ≡ tells Client rules.Twice Should 1 0 ∷ tells Server rules.NotOwed Must 2 0 ∷ [] }
+        ≡ tells Client rules.Twice Should 1 0 ∷ tells Server rules.NotOwed Note 1 0 ∷ tells Server rules.NotOwed Must 2 0 ∷ [] }
     ensures notification { told JsonRpc (says Client (message (method ∷ method ∷ [])) ∷ says Server (null_answer (codes "-32600")) ∷ [])
-        ≡ tells Client rules.Twice Should 1 0 ∷ [] }
+        ≡ tells Client rules.Twice Should 1 0 ∷ tells Server rules.NotOwed Note 1 0 ∷ [] }
     ensures of_another { told JsonRpc (says Client two_ids ∷ says Client (request (codes "8")) ∷ says Server (answer (codes "8"))
         ∷ says Server (answer (codes "7")) ∷ ends Server Closed ∷ []) ≡ tells Client rules.Twice Should 1 0 ∷ [] }
     ensures in_a_batch { told JsonRpc (says Client (array_of (two_ids ∷ request (codes "9") ∷ []))
@@ -235,7 +246,7 @@ pub fn ids_that_are_left_out()
     ensures error { told Mcp (says Server (message (failure (codes "-32700") ∷ [])) ∷ []) ≡ [] }
     ensures error_before { told Mcp20250618 (says Server (message (failure (codes "-32700") ∷ [])) ∷ []) ≡ tells Server rules.Id Must 1 0 ∷ [] }
     ensures error_for_a_batch { told Mcp (says Client (array_of (request (codes "7") ∷ [])) ∷ says Server (message (failure (codes "-32600") ∷ []))
-        ∷ ends Server Closed ∷ []) ≡ tells Client rules.Batch Must 1 0 ∷ [] }
+        ∷ ends Server Closed ∷ []) ≡ tells Client rules.Batch Must 1 0 ∷ tells Server rules.Unanswered Note 1 1 ∷ [] }
     ensures error_for_a_batch_before { told Mcp20250618 (says Client (array_of (request (codes "7") ∷ [])) ∷ says Server (message (failure (codes "-32600") ∷ []))
         ∷ ends Server Closed ∷ []) ≡ tells Client rules.Batch Must 1 0 ∷ tells Server rules.Id Must 1 0 ∷ tells Server rules.Unanswered Must 1 1 ∷ [] }
     ensures bad_error { told Mcp (says Server (message (failure (codes "1.5") ∷ [])) ∷ []) ≡ tells Server rules.Error Must 1 0 ∷ [] }

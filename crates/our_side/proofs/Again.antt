@@ -251,7 +251,8 @@ module _ (side : Side) (those : Rule → Bool) (fair : IsFair those) (not_owed :
     our_below is_unfinished b e pair (Array []) well up below = absurd well
     our_below is_unfinished b e pair (Array (entry ∷ entries)) said up below =
         let own = opened message true (have_huge (entry ∷ entries)) pair.own in
-        shut_below e (behind_entries protocol 1 (entry ∷ entries) own) (entries_below protocol 1 b e (entry ∷ entries) own said up (opened_below b message true (have_huge (entry ∷ entries)) pair.own below))
+        let shut = shut_below e (behind_entries protocol 1 (entry ∷ entries) own) (entries_below protocol 1 b e (entry ∷ entries) own said up (opened_below b message true (have_huge (entry ∷ entries)) pair.own below)) in
+        record { runs = shut.runs; owed = shut.owed }
 
   -- ---- a content of the other side
 
@@ -263,8 +264,8 @@ module _ (side : Side) (those : Rule → Bool) (fair : IsFair those) (not_owed :
   their_below is_unfinished b message pair HalfPair is = record { runs = is.runs; owed = is.owed }
   their_below is_unfinished b message pair (Single entry) is = record { runs = is.runs; owed = from (is_answer entry.kind) }
     where
-      from : (c : Bool) → OwedBelow b (if c then behind_single protocol (reply_of protocol pair.other.owed 0 entry) (answer_id protocol entry) pair.other.owed else pair.other.owed)
-      from true = single_below b protocol (reply_of protocol pair.other.owed 0 entry) (answer_id protocol entry) pair.other.owed is.owed
+      from : (c : Bool) → OwedBelow b (if c then behind_single (sight_of pair) (reply_of protocol pair.other.owed 0 entry) (answer_id protocol entry) pair.other.owed else pair.other.owed)
+      from true = single_below b (sight_of pair) (reply_of protocol pair.other.owed 0 entry) (answer_id protocol entry) pair.other.owed is.owed
       from false = is.owed
   their_below is_unfinished b message pair (Array []) is = is
   their_below is_unfinished b message pair (Array (entry ∷ entries)) is = record {

@@ -9,7 +9,7 @@ use Rattle.conversation_reading.specs.Wholes.{size_of, whole_with, if_64_bits, w
 use Rattle.conversation_reading.specs.declared.entry.WrittenId.{WrittenId}
 use Rattle.conversation_reading.specs.declared.entry.WrittenId.TheVariants.{Number}
 use Rattle.conversation_rules.specs.Amounts.{same_amount, same_id}
-use Rattle.conversation_rules.specs.Answers.{Each as Taken, stray_of, are_told, behind_not_owed, behind_found, rest_of, target_of, behind_single, target_in_array, with_found, with_reply, each_of, behind_strays, new_each, none_fits, batch_rest, behind_answers_of, behind_answers}
+use Rattle.conversation_rules.specs.Answers.{Each as Taken, stray_of, are_told, behind_not_owed, refuses, behind_unfit, behind_found, rest_of, target_of, behind_single, target_in_array, with_found, with_reply, each_of, behind_strays, new_each, none_fits, batch_rest, behind_answers_of, behind_answers}
 use Rattle.conversation_rules.specs.Dues as dues
 use Rattle.conversation_rules.specs.Dues.{owed_more, is_open, closed, any_owed, is_asked, cancelled, cancelled_in, with_entries, settled_entry, settled, unreadable_target, array_target, settled_batch, found_batch}
 use Rattle.conversation_rules.specs.Matching.{is_request_for}
@@ -132,13 +132,13 @@ module _ (b : ℕ) where
   stray_below : (strays : List Stray) (all : List Due) → OwedBelow b all → OwedBelow b (behind_not_owed strays all)
   stray_below strays all is = either_below (are_told strays) (settled (unreadable_target all) all) all (settled_below (unreadable_target all) all is) is
 
-  found_below : (reply : Reply) (rest : List Due) (o : Option Found) → OwedBelow b rest → OwedBelow b (behind_found reply rest o)
-  found_below reply rest None is = stray_below (stray_of reply ∷ []) rest is
-  found_below reply rest (Some f) is = is
+  found_below : (sight : Sight) (reply : Reply) (rest : List Due) (o : Option Found) → OwedBelow b rest → OwedBelow b (behind_found sight reply rest o)
+  found_below sight reply rest None is = either_below (refuses sight reply rest) rest (behind_not_owed (stray_of reply ∷ []) rest) is (stray_below (stray_of reply ∷ []) rest is)
+  found_below sight reply rest (Some f) is = is
 
-  pub single_below : (protocol : Protocol) (reply : Reply) (id : Option WrittenId) (all : List Due) → OwedBelow b all → OwedBelow b (behind_single protocol reply id all)
-  single_below protocol reply id all is =
-      found_below reply (rest_of protocol reply id all) (dues.found (target_of protocol reply id all) all) (settled_below (target_of protocol reply id all) all is)
+  pub single_below : (sight : Sight) (reply : Reply) (id : Option WrittenId) (all : List Due) → OwedBelow b all → OwedBelow b (behind_single sight reply id all)
+  single_below sight reply id all is =
+      found_below sight reply (rest_of sight reply id all) (dues.found (target_of sight reply id all) all) (settled_below (target_of sight reply id all) all is)
 
   with_below : (protocol : Protocol) (sight : Sight) (message : Message) (reply : Reply) (each : Taken) (rest : List Due) (o : Option Found) → OwedBelow b rest → OwedBelow b (with_found protocol sight message reply each rest o).owed
   with_below protocol sight message reply each rest None is = is

@@ -50,30 +50,26 @@ module _ (P : Id → Answer → Type 0) where
   pub calls_before : (h : Happening) (past : History) → OfSingleCalls P (h ∷ past) → OfSingleCalls P past
   calls_before h past holds = units_before h past 1 (units_of past) (units_at h) holds
 
-  pub calls_at_first : (more : List Happening) (past : History) → OfSingleCalls P (more ++ past) → OfSingleCalls P past
-  calls_at_first [] past holds = holds
-  calls_at_first (h ∷ more) past holds = calls_at_first more past (calls_before h (more ++ past) holds)
+  -- and where it is so of any
+  module _ (any : (id : Id) (a : Answer) → P id a) where
+    call_any : (history : History) (n : ℕ) (e : Entry) → OfCall P history n e
+    call_any history n (Call c) = λ id a is given. any id a
+    call_any history n (Cancel id) = tt
+    call_any history n (Reply k r) = tt
+    call_any history n Stray = tt
+    call_any history n Invalid = tt
 
-  -- and what follows from it
-  module _ (Q : Id → Answer → Type 0) (weaker : (id : Id) (a : Answer) → P id a → Q id a) where
-    call_weaker : (history : History) (n : ℕ) (e : Entry) → OfCall P history n e → OfCall Q history n e
-    call_weaker history n (Call c) holds = λ id a is given. weaker id a (holds id a is given)
-    call_weaker history n (Cancel id) holds = tt
-    call_weaker history n (Reply k r) holds = tt
-    call_weaker history n Stray holds = tt
-    call_weaker history n Invalid holds = tt
+    unit_any : (history : History) (n : ℕ) (u : Unit) → OfUnit P history n u
+    unit_any history n Unreadable = tt
+    unit_any history n (Single e) = call_any history n e
+    unit_any history n (Batch es) = tt
 
-    unit_weaker : (history : History) (n : ℕ) (u : Unit) → OfUnit P history n u → OfUnit Q history n u
-    unit_weaker history n Unreadable holds = tt
-    unit_weaker history n (Single e) holds = call_weaker history n e holds
-    unit_weaker history n (Batch es) holds = tt
+    units_any : (history : History) (n : ℕ) (us : List Unit) → OfUnits P history n us
+    units_any history n [] = tt
+    units_any history n (u ∷ us) = (unit_any history n u, units_any history (n + length (calls_in (entries_in u))) us)
 
-    units_weaker : (history : History) (n : ℕ) (us : List Unit) → OfUnits P history n us → OfUnits Q history n us
-    units_weaker history n [] holds = tt
-    units_weaker history n (u ∷ us) holds = (unit_weaker history n u holds.0, units_weaker history (n + length (calls_in (entries_in u))) us holds.1)
-
-    pub calls_weaker : (history : History) → OfSingleCalls P history → OfSingleCalls Q history
-    calls_weaker history holds = units_weaker history 1 (units_of history) holds
+    pub calls_all : (history : History) → OfSingleCalls P history
+    calls_all history = units_any history 1 (units_of history)
 
 at_most : (b c : Bool) → (b ≡ true → c ≡ true) → as_number b ≤ as_number c
 at_most false c is = omega arith

@@ -1,4 +1,4 @@
--- A connection is accused of no answer, where it takes each batch whole, and its host reads calls with the id null.
+-- A connection is accused of no answer, where it refuses what is too large, or takes each batch whole.
 use Rattle.std.proofs.Common.{◌≡◌, ℕ, zero, suc, ◌≤◌, Bool, true, false, if◌then◌else◌, List, [], ◌∷◌, ◌++◌, map, take, length, Option, None, refl, sym, ap, subst, ◌∙◌, arith, append-nil}
 use Rattle.std.specs.Prelude.{is_some}
 use Rattle.lsp_frames.specs.declared.frame.Frame.{Frame}
@@ -23,11 +23,11 @@ use Rattle.conversation_rules.specs.declared.protocol.Protocol.{Protocol}
 use Rattle.conversation_rules.specs.declared.side.Side.{Side}
 use Rattle.conversation_rules.specs.declared.side.Side.TheVariants.{Client, Server}
 use Rattle.message_ids.specs.declared.id.Id.{Id}
-use Rattle.our_side.specs.Answered.{AreAnsweredWhole, OfSingleCalls, ReadsNullCalls, came_alone, came_together, said_alone, said_together, total}
+use Rattle.our_side.specs.Answered.{AreAnsweredWhole, OfSingleCalls, came_alone, came_together, said_alone, said_together, total}
 use Rattle.our_side.specs.Asked.{AllSay, Question, CanBeAsked, asked_in, answered_in, judged}
-use Rattle.our_side.specs.OurSide.{seen_of, IsInTime, AllTakenWhole}
-use Rattle.our_side.proofs.Asking.{IsRead, counts, may_count, may_pass, counts_all, TakenEach, asked_each, each_taken, each_asked, first_taken as first_frames, first_asked, units_whole, units_few}
-use Rattle.our_side.proofs.Forms.{calls_at_first, calls_weaker}
+use Rattle.our_side.specs.OurSide.{seen_of, IsInTime, AllTaken}
+use Rattle.our_side.proofs.Asking.{counts, may_count, may_pass, counts_all, TakenEach, asked_each, each_taken, each_asked, first_taken as first_frames, first_asked, units_whole, units_few}
+use Rattle.our_side.proofs.Forms.{calls_all}
 use Rattle.our_side.proofs.Plainly.{later_of}
 use Rattle.our_side.proofs.Replying.{SayEach, answered_each, all_say, each_answered, first_answered, messages_say, messages_few}
 use Rattle.connection.proofs.SaidSound.{AreSound}
@@ -98,7 +98,7 @@ pub record AnswersOnce : Type 0 where
 
 module _ (laws : Laws) (once : AnswersOnce) (protocol : Protocol) (framing : Framing) (limits : Limits) (side : Side) (connection : Connection) (history : History) (before : List Seen)
     (it : IsInTime protocol framing limits side connection history before)
-    (reads : ReadsNullCalls history) (taken : AllTakenWhole connection.settings (placed_contents (seen_of protocol framing limits before (other side)))) where
+    (taken : AllTaken connection.settings (placed_contents (seen_of protocol framing limits before (other side)))) where
   abbrev ours : Stream
   ours = seen_of protocol framing limits before side
 
@@ -113,10 +113,6 @@ module _ (laws : Laws) (once : AnswersOnce) (protocol : Protocol) (framing : Fra
 
   came_taken : TakenEach connection.settings came
   came_taken = first_frames connection.settings (length (units_of it.past)) (contents theirs) (subst (TakenEach connection.settings) frames_are (each_taken connection.settings (placed_contents theirs) taken))
-
-  -- and so did the connection as it stood then
-  past_reads : ReadsNullCalls it.past
-  past_reads = calls_at_first IsRead it.more it.past (subst (OfSingleCalls IsRead) it.whole reads)
 
   answered_whole : AreAnsweredWhole it.earlier.settings.cancels (units_of it.past)
   answered_whole = subst (λ s. AreAnsweredWhole s.cancels (units_of it.past)) (sym it.settings) (subst (AreAnsweredWhole connection.settings.cancels) (sym it.came) (units_whole connection.settings came came_taken))
@@ -142,7 +138,7 @@ module _ (laws : Laws) (once : AnswersOnce) (protocol : Protocol) (framing : Fra
   by_then q can =
       let said : answered_in q (placed_contents ours) ≡ answered_each q (map plain (take whole (map text_of messages))) = sym (each_answered q (placed_contents ours)) ∙ ap (answered_each q) texts_are in
       let told = messages_few it.earlier.settings.cancels messages whole q can are_sound in
-      let singly = once.alone it.earlier.settings.order it.past (counts q) (may_count q) (calls_weaker IsRead (λ id a. counts q (id, a) ≡ true → may_count q id ≡ true) (may_pass q) it.past past_reads) in
+      let singly = once.alone it.earlier.settings.order it.past (counts q) (may_count q) (calls_all (λ id a. counts q (id, a) ≡ true → may_count q id ≡ true) (may_pass q) it.past) in
       let in_arrays = once.together it.earlier.settings.cancels it.earlier.settings.order it.past it.written.stands.lawful answered_whole (counts_all q) in
       let one : total (came_alone (counts q) (may_count q)) (units_of it.past) ≡ total (came_alone (counts q) (may_count q)) (map (read (rules_of connection.settings)) came) = ap (total (came_alone (counts q) (may_count q))) it.came in
       let all : total (came_together (counts_all q)) (units_of it.past) ≡ total (came_together (counts_all q)) (map (read (rules_of connection.settings)) came) = ap (total (came_together (counts_all q))) it.came in
@@ -153,30 +149,30 @@ module _ (laws : Laws) (once : AnswersOnce) (protocol : Protocol) (framing : Fra
 
 -- ---- the whole conversation
 
-first_taken : (settings : Chosen) (xs ys : List (ℕ × Frame)) → AllTakenWhole settings (xs ++ ys) → AllTakenWhole settings xs
+first_taken : (settings : Chosen) (xs ys : List (ℕ × Frame)) → AllTaken settings (xs ++ ys) → AllTaken settings xs
 first_taken settings [] ys taken = tt
 first_taken settings (x ∷ xs) ys taken = (taken.0, first_taken settings xs ys taken.1)
 
 module _ (laws : Laws) (once : AnswersOnce) (protocol : Protocol) (framing : Framing) (limits : Limits) (seen : List Seen) (side : Side) (connection : Connection) (history : History)
     (in_time : (before after : List Seen) → seen ≡ before ++ after → IsInTime protocol framing limits side connection history before)
-    (reads : ReadsNullCalls history) (taken : AllTakenWhole connection.settings (placed_contents (seen_of protocol framing limits seen (other side)))) where
+    (taken : AllTaken connection.settings (placed_contents (seen_of protocol framing limits seen (other side)))) where
   pub says : AllSay (placed_contents (seen_of protocol framing limits seen side))
-  says = we_say laws once protocol framing limits side connection history seen (in_time seen [] (sym (append-nil seen))) reads taken
+  says = we_say laws once protocol framing limits side connection history seen (in_time seen [] (sym (append-nil seen))) taken
 
   module _ (before after : List Seen) (split : seen ≡ before ++ after) where
     by_now : Later (seen_of protocol framing limits before (other side)) (seen_of protocol framing limits seen (other side))
     by_now = later_of laws.grow protocol side framing limits seen (other side) before after split
 
-    taken_by : AllTakenWhole connection.settings (placed_contents (seen_of protocol framing limits before (other side)))
+    taken_by : AllTaken connection.settings (placed_contents (seen_of protocol framing limits before (other side)))
     taken_by =
         let s = seen_of protocol framing limits before (other side) in
         let g = grown laws.grow s (seen_of protocol framing limits seen (other side)) by_now in
-        first_taken connection.settings (placed_contents s) g.later (subst (AllTakenWhole connection.settings) g.is taken)
+        first_taken connection.settings (placed_contents s) g.later (subst (AllTaken connection.settings) g.is taken)
 
   pub counts_by : (before after : List Seen) → seen ≡ before ++ after → (q : Question) → CanBeAsked q
       → answered_in q (judged (seen_of protocol framing limits before side)) ≤ asked_in q (judged (seen_of protocol framing limits before (other side)))
   counts_by before after split q can =
-      let now = by_then laws once protocol framing limits side connection history before (in_time before after split) reads (taken_by before after split) q can in
+      let now = by_then laws once protocol framing limits side connection history before (in_time before after split) (taken_by before after split) q can in
       let mine = first_answered q (seen_of protocol framing limits before side).taken (placed_contents (seen_of protocol framing limits before side)) in
       let yours : asked_in q (judged (seen_of protocol framing limits before (other side))) ≡ asked_in q (placed_contents (seen_of protocol framing limits before (other side))) = ap (asked_in q) (judged_is protocol framing limits before (other side)) in
       omega (arith, now, mine, yours)

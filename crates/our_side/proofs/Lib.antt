@@ -11,6 +11,7 @@ mod Forms
 mod Found
 mod Ids
 mod InTime
+mod Kept
 mod Keys
 mod Limited
 mod Matched
@@ -21,7 +22,9 @@ mod Plainly
 mod Replying
 mod Said
 mod Streaming
+mod Taking
 mod Tied
+mod UnderNull
 mod Walking
 mod Worked
 mod Writes

@@ -1,11 +1,9 @@
 -- What holds of a reading holds of what the judge takes of it, where it holds of what is over its limits.
-use Rattle.std.proofs.Common.{◌≡◌, nat_lt, Bool, true, false, if◌then◌else◌, [], ◌∷◌, length, refl, ap}
+use Rattle.std.proofs.Common.{nat_lt, Bool, true, false, if◌then◌else◌, length}
 use Rattle.conversation_reading.specs.Strictly.{limited}
 use Rattle.conversation_reading.specs.declared.reading.Reading.{Reading}
 use Rattle.conversation_reading.specs.declared.reading.Reading.TheVariants.{Foreign, NotText, NotJson, OverLimits, HalfPair, Single, Array}
 use Rattle.conversation_reading.specs.declared.reading.TheConstants.{MOST_ENTRIES_IN}
-use Rattle.connection.specs.Settings.{Chosen}
-use Rattle.our_side.specs.OurSide.{IsTakenWhole}
 
 either : (P : Reading → Type 0) (b : Bool) (reading : Reading) → P OverLimits → P reading → P (if b then OverLimits else reading)
 either P true reading over is = over
@@ -19,14 +17,3 @@ limited_keeps P over OverLimits is = is
 limited_keeps P over HalfPair is = is
 limited_keeps P over (Single entry) is = is
 limited_keeps P over (Array entries) is = either P (nat_lt MOST_ENTRIES_IN (length entries)) (Array entries) over is
-
--- what a connection takes whole isn't over them
-pub taken_within : (settings : Chosen) (reading : Reading) → IsTakenWhole settings reading → limited reading ≡ reading
-taken_within settings Foreign taken = refl
-taken_within settings NotText taken = refl
-taken_within settings NotJson taken = refl
-taken_within settings OverLimits taken = refl
-taken_within settings HalfPair taken = refl
-taken_within settings (Single entry) taken = refl
-taken_within settings (Array []) taken = refl
-taken_within settings (Array (entry ∷ entries)) taken = ap (λ b. if b then OverLimits else Array (entry ∷ entries)) taken.2

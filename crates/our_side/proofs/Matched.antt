@@ -9,10 +9,10 @@ use Rattle.std.specs.Option.{option_map_or, is_none}
 use Rattle.conversation_reading.specs.declared.entry.WrittenId.{WrittenId}
 use Rattle.conversation_reading.specs.declared.entry.WrittenId.TheVariants.{Null}
 use Rattle.conversation_rules.specs.Amounts.{is_null}
-use Rattle.conversation_rules.specs.Answers.{fit_findings, has_code, single_findings_of, rest_of, may_refuse, target_of, single_findings, cancelled_code_level, or_note, array_findings, taken_findings, answers_findings_of, batch_rest, answers_findings}
+use Rattle.conversation_rules.specs.Answers.{fit_findings, has_code, single_findings_of, rest_of, is_unsure, target_of, single_findings, cancelled_code_level, or_note, array_findings, taken_findings, answers_findings_of, batch_rest, answers_findings}
 use Rattle.conversation_rules.specs.Dues as dues
 use Rattle.conversation_rules.specs.Dues.{ids_read, array_target, array_fits, found_batch, fit_of, fit_in}
-use Rattle.conversation_rules.specs.Matching.{place_in, later, oldest, or_else, is_request_for, named_in, named_target, is_null_request, is_null_other, is_unnamed, null_in, refused_batch, null_target, parse_error_target, is_just, can_be_answered, batch_target}
+use Rattle.conversation_rules.specs.Matching.{place_in, later, oldest, or_else, is_request_for, named_in, named_target, is_null_request, is_null_other, is_unnamed, expects_null_in, null_in, null_target, parse_error_target, is_just, can_be_answered, batch_target}
 use Rattle.conversation_rules.specs.Owed.{Owed, Due, is_expected, may_have}
 use Rattle.conversation_rules.specs.Protocols.{is_mcp}
 use Rattle.conversation_rules.specs.Speakers.{found, found_if}
@@ -200,76 +200,79 @@ module _ (protocol : Protocol) (sight : Sight) (message : Message) (reply : Repl
       let inner = either_of_two (oldest false (is_request_for id) owed) (or_else (oldest false (is_expected id) owed) (oldest false (may_have id) owed)) owed (there_is (is_request_for id) owed)
       (first_of_two (oldest false (is_expected id) owed) (oldest false (may_have id) owed) owed it) in
       let all = first_of_two (named_in false id owed) (named_in true id owed) owed inner in
-      let target : target_of protocol reply (Some id) owed ≡ named_target id owed = ap (λ b. if b then null_target_of else named_target id owed) named in
-      single_none protocol sight message reply (rest_of protocol reply (Some id) owed) owed (target_of protocol reply (Some id) owed) (subst (λ t. IsOldest t owed) (sym target) all)
+      let target : target_of sight reply (Some id) owed ≡ named_target id owed = ap (λ b. if b then null_target_of else named_target id owed) named in
+      single_none protocol sight message reply (rest_of sight reply (Some id) owed) owed (target_of sight reply (Some id) owed) (subst (λ t. IsOldest t owed) (sym target) all)
     where
       null_target_of : Option Target
-      null_target_of = if has_code 32700 reply then parse_error_target (may_refuse protocol reply) owed else null_target (has_code 32600 reply) (may_refuse protocol reply) owed
+      null_target_of = if has_code 32700 reply then parse_error_target (is_unsure sight reply owed) owed else null_target (has_code 32600 reply) (is_unsure sight reply owed) owed
 
   -- a target for an answer with the id null
-  null_none : (t : Option Target) → target_of protocol reply (Some Null) owed ≡ t → IsOldest t owed → NoneOf is_of_answers (single_findings protocol sight message reply (Some Null) owed)
-  null_none t is it = single_none protocol sight message reply (rest_of protocol reply (Some Null) owed) owed (target_of protocol reply (Some Null) owed) (subst (λ t. IsOldest t owed) (sym is) it)
+  null_none : (t : Option Target) → target_of sight reply (Some Null) owed ≡ t → IsOldest t owed → NoneOf is_of_answers (single_findings protocol sight message reply (Some Null) owed)
+  null_none t is it = single_none protocol sight message reply (rest_of sight reply (Some Null) owed) owed (target_of sight reply (Some Null) owed) (subst (λ t. IsOldest t owed) (sym is) it)
 
-  other_oldest : (says : Bool) → (is_owed_singly is_null_request owed ≡ true) ⊎ (is_owed_singly is_null_other owed ≡ true) → IsOldest (null_in says false owed) owed
-  other_oldest true (inl request) =
-      either_of_two (oldest false is_null_other owed) (or_else (oldest false is_null_request owed) (oldest false (λ one. one.may_be_null) owed)) owed (there_is is_null_other owed)
-      (first_of_two (oldest false is_null_request owed) (oldest false (λ one. one.may_be_null) owed) owed (oldest_is is_null_request owed request))
-  other_oldest true (inr other) =
-      first_of_two (oldest false is_null_other owed) (or_else (oldest false is_null_request owed) (oldest false (λ one. one.may_be_null) owed)) owed (oldest_is is_null_other owed other)
-  other_oldest false (inl request) =
-      first_of_two (oldest false is_null_request owed) (or_else (oldest false is_null_other owed) (oldest false (λ one. one.may_be_null) owed)) owed (oldest_is is_null_request owed request)
-  other_oldest false (inr other) =
-      either_of_two (oldest false is_null_request owed) (or_else (oldest false is_null_other owed) (oldest false (λ one. one.may_be_null) owed)) owed (there_is is_null_request owed)
-      (first_of_two (oldest false is_null_other owed) (oldest false (λ one. one.may_be_null) owed) owed (oldest_is is_null_other owed other))
+  expected_oldest : (says : Bool) → (is_owed_singly is_null_request owed ≡ true) ⊎ (is_owed_singly is_null_other owed ≡ true) → IsOldest (expects_null_in says false owed) owed
+  expected_oldest true (inl request) =
+      either_of_two (oldest false is_null_other owed) (oldest false is_null_request owed) owed (there_is is_null_other owed) (oldest_is is_null_request owed request)
+  expected_oldest true (inr other) = first_of_two (oldest false is_null_other owed) (oldest false is_null_request owed) owed (oldest_is is_null_other owed other)
+  expected_oldest false (inl request) = first_of_two (oldest false is_null_request owed) (oldest false is_null_other owed) owed (oldest_is is_null_request owed request)
+  expected_oldest false (inr other) =
+      either_of_two (oldest false is_null_request owed) (oldest false is_null_other owed) owed (there_is is_null_request owed) (oldest_is is_null_other owed other)
+
+  -- whether it may be for something else
+  other_oldest : (says unsure : Bool) → (is_owed_singly is_null_request owed ≡ true) ⊎ (is_owed_singly is_null_other owed ≡ true) → IsOldest (null_target says unsure owed) owed
+  other_oldest says true any = expected_oldest says any
+  other_oldest says false any =
+      first_of_two (null_in says false owed) (null_in says true owed) owed
+      (first_of_two (expects_null_in says false owed) (oldest false (λ one. one.may_be_null) owed) owed (expected_oldest says any))
 
   pub refused_none : has_code 32700 reply ≡ false → (is_owed_singly is_null_request owed ≡ true) ⊎ (is_owed_singly is_null_other owed ≡ true) → NoneOf is_of_answers (single_findings protocol sight message reply (Some Null) owed)
   refused_none code any =
       let says = has_code 32600 reply in
-      null_none (null_target says (may_refuse protocol reply) owed) (ap (λ b. if b then parse_error_target (may_refuse protocol reply) owed else null_target says (may_refuse protocol reply) owed) code)
-      (first_of_two (null_in says false owed) (or_else (refused_batch (may_refuse protocol reply) owed) (null_in says true owed)) owed (other_oldest says any))
+      let unsure = is_unsure sight reply owed in
+      null_none (null_target says unsure owed) (ap (λ b. if b then parse_error_target unsure owed else null_target says unsure owed) code) (other_oldest says unsure any)
 
   -- the whole of a content that can't be read
-  whole_none : (place : ℕ) → target_of protocol reply (Some Null) owed ≡ Some (WholeOf place) → NoneOf is_of_answers (single_findings protocol sight message reply (Some Null) owed)
+  whole_none : (place : ℕ) → target_of sight reply (Some Null) owed ≡ Some (WholeOf place) → NoneOf is_of_answers (single_findings protocol sight message reply (Some Null) owed)
   whole_none place is =
-      subst (λ t. NoneOf is_of_answers (single_findings_of protocol sight message reply (rest_of protocol reply (Some Null) owed) (dues.found t owed))) (sym is) tt
+      subst (λ t. NoneOf is_of_answers (single_findings_of protocol sight message reply (rest_of sight reply (Some Null) owed) (dues.found t owed))) (sym is) tt
 
-  parse_error_is : has_code 32700 reply ≡ true → target_of protocol reply (Some Null) owed ≡ parse_error_target (may_refuse protocol reply) owed
-  parse_error_is code = ap (λ b. if b then parse_error_target (may_refuse protocol reply) owed else null_target (has_code 32600 reply) (may_refuse protocol reply) owed) code
+  parse_error_is : has_code 32700 reply ≡ true → target_of sight reply (Some Null) owed ≡ parse_error_target (is_unsure sight reply owed) owed
+  parse_error_is code = ap (λ b. if b then parse_error_target (is_unsure sight reply owed) owed else null_target (has_code 32600 reply) (is_unsure sight reply owed) owed) code
 
   -- behind what can't be read, and requests with the id null
+  abbrev named_others : Option Target
+  named_others = if is_unsure sight reply owed then None else oldest false is_null_other owed
+
   abbrev behind_requests : Option Target
-  behind_requests =
-      or_else (option_map WholeOf (position (λ due. due.has_huge) owed))
-      (or_else (oldest false is_unnamed owed)
-      (or_else (refused_batch (may_refuse protocol reply) owed) (oldest true is_null_request owed)))
+  behind_requests = if is_unsure sight reply owed && list_any (λ due. due.has_huge) owed then None else or_else (oldest false is_unnamed owed) named_others
 
   -- behind what can't be read
   abbrev others : Option Target
-  others =
-      or_else (oldest false is_null_request owed) behind_requests
+  others = or_else (oldest false is_null_request owed) behind_requests
 
-  at_place : (o : Option ℕ) → position (λ due. due.is_unreadable) owed ≡ o → parse_error_target (may_refuse protocol reply) owed ≡ or_else (option_map WholeOf o) others
+  at_place : (o : Option ℕ) → position (λ due. due.is_unreadable) owed ≡ o → parse_error_target (is_unsure sight reply owed) owed ≡ or_else (option_map WholeOf o) others
   at_place o is = ap (λ p. or_else (option_map WholeOf p) others) is
 
   -- a request with the id null, or what else has no id, where each content can be read
-  single_unread : has_code 32700 reply ≡ true → position (λ due. due.is_unreadable) owed ≡ None → (is_owed_singly is_null_request owed ≡ true) ⊎ (is_owed_singly is_unnamed owed ≡ true) → NoneOf is_of_answers (single_findings protocol sight message reply (Some Null) owed)
+  and_false : (b : Bool) → (b && false) ≡ false
+  and_false true = refl
+  and_false false = refl
+
+  abbrev UnnamedAlone : Type 0
+  UnnamedAlone = (is_owed_singly is_unnamed owed ≡ true) × (list_any (λ due. due.has_huge) owed ≡ false)
+
+  single_unread : has_code 32700 reply ≡ true → position (λ due. due.is_unreadable) owed ≡ None → (is_owed_singly is_null_request owed ≡ true) ⊎ UnnamedAlone → NoneOf is_of_answers (single_findings protocol sight message reply (Some Null) owed)
   single_unread code read (inl request) =
       null_none others (parse_error_is code ∙ at_place None read) (first_of_two (oldest false is_null_request owed) behind_requests owed (oldest_is is_null_request owed request))
-  single_unread code read (inr unnamed) = from (oldest false is_null_request owed) refl (position (λ due. due.has_huge) owed) refl
-    where
-      from : (t : Option Target) → oldest false is_null_request owed ≡ t → (o : Option ℕ) → position (λ due. due.has_huge) owed ≡ o → NoneOf is_of_answers (single_findings protocol sight message reply (Some Null) owed)
-      from (Some t) is o huge =
-          null_none others (parse_error_is code ∙ at_place None read) (first_of_two (oldest false is_null_request owed) behind_requests owed (there_is is_null_request owed t is))
-      from None is (Some place) huge =
-          whole_none place (parse_error_is code ∙ at_place None read ∙ ap (λ t. or_else t behind_requests) is
-          ∙ ap (λ p. or_else (option_map WholeOf p) (or_else (oldest false is_unnamed owed) (or_else (refused_batch (may_refuse protocol reply) owed) (oldest true is_null_request owed)))) huge)
-      from None is None huge =
-          let behind = or_else (refused_batch (may_refuse protocol reply) owed) (oldest true is_null_request owed) in
-          null_none (or_else (oldest false is_unnamed owed) behind)
-          (parse_error_is code ∙ at_place None read ∙ ap (λ t. or_else t behind_requests) is ∙ ap (λ p. or_else (option_map WholeOf p) (or_else (oldest false is_unnamed owed) behind)) huge)
-          (first_of_two (oldest false is_unnamed owed) behind owed (oldest_is is_unnamed owed unnamed))
+  single_unread code read (inr unnamed) =
+      let within : behind_requests ≡ or_else (oldest false is_unnamed owed) named_others =
+      ap (λ b. if is_unsure sight reply owed && b then None else or_else (oldest false is_unnamed owed) named_others) unnamed.1
+      ∙ ap (λ b. if b then None else or_else (oldest false is_unnamed owed) named_others) (and_false (is_unsure sight reply owed)) in
+      null_none others (parse_error_is code ∙ at_place None read)
+      (either_of_two (oldest false is_null_request owed) behind_requests owed (there_is is_null_request owed)
+      (subst (λ t. IsOldest t owed) (sym within) (first_of_two (oldest false is_unnamed owed) named_others owed (oldest_is is_unnamed owed unnamed.0))))
 
-  pub unreadable_none : has_code 32700 reply ≡ true → (any_unreadable owed ≡ true) ⊎ ((is_owed_singly is_null_request owed ≡ true) ⊎ (is_owed_singly is_unnamed owed ≡ true)) → NoneOf is_of_answers (single_findings protocol sight message reply (Some Null) owed)
+  pub unreadable_none : has_code 32700 reply ≡ true → (any_unreadable owed ≡ true) ⊎ ((is_owed_singly is_null_request owed ≡ true) ⊎ UnnamedAlone) → NoneOf is_of_answers (single_findings protocol sight message reply (Some Null) owed)
   unreadable_none code (inl any) =
       let it = placed (λ (due : Due). due.is_unreadable) owed any in
       whole_none it.place (parse_error_is code ∙ at_place (Some it.place) it.is)

@@ -1,20 +1,21 @@
 -- What is owed: how often each thing is asked.
-use Rattle.std.proofs.Common.{◌≡◌, ◌==◌, ◌||◌, ◌&&◌, not, ℕ, suc, ◌+◌, ◌≤◌, Bool, true, false, if◌then◌else◌, List, [], ◌∷◌, ◌++◌, map, length, position, Option, Some, None, option_map, refl, sym, ap, subst, ◌∙◌, arith}
+use Rattle.std.proofs.Common.{◌≡◌, ◌⊎◌, inl, inr, ◌==◌, ◌||◌, ◌&&◌, not, ℕ, suc, ◌+◌, ◌≤◌, Bool, true, false, if◌then◌else◌, List, [], ◌∷◌, ◌++◌, map, length, position, Option, Some, None, option_map, refl, sym, ap, subst, ◌∙◌, arith}
 use Rattle.std.proofs.lemmas.Bool.Decides.{nat_tests}
 use Rattle.std.proofs.lemmas.List.Elements.{filter_map-append}
 use Rattle.std.specs.Prelude.{⊤, slice_get, remove}
-use Rattle.std.specs.List.{filter_map}
+use Rattle.std.specs.List.{list_any, filter_map}
 use Rattle.std.specs.Option.{option_map_or, option_to_list}
 use Rattle.conversation_reading.specs.declared.entry.WrittenId.{WrittenId}
 use Rattle.conversation_rules.specs.Dues as dues
 use Rattle.conversation_rules.specs.Dues.{owed_more, is_open, closed, cancelled, cancelled_in, with_entries, settled_entry, fit_of}
-use Rattle.conversation_rules.specs.Matching.{place_in, later, oldest, is_request_for, expects_null, is_null_request, is_null_other, expected_ids}
+use Rattle.conversation_rules.specs.Amounts.{is_null}
+use Rattle.conversation_rules.specs.Matching.{place_in, later, oldest, is_request_for, expects_null, is_null_request, is_null_other, is_unnamed, is_just, expected_ids}
 use Rattle.conversation_rules.specs.Owed.{Owed, Due, unreadable_due, is_expected}
 use Rattle.conversation_rules.specs.declared.found.Fit.{Fit}
 use Rattle.conversation_rules.specs.declared.found.Found.TheVariants.{Entry as EntryFit}
 use Rattle.conversation_rules.specs.declared.found.Target.TheVariants.{EntryOf}
 use Rattle.judge_laws.proofs.Failures.{passed_by}
-use Rattle.our_side.specs.Asked.{ArePlain, Question, alone, together, unread, unnamed, CanBeAsked, as_number, times, nulls, asked_from}
+use Rattle.our_side.specs.Asked.{ArePlain, Question, alone, together, under_null, CanBeAsked, as_number, times, nulls, asked_from}
 use Rattle.our_side.proofs.Below.{AllOf, all-append}
 use Rattle.our_side.proofs.Matched.{first_place, next_place}
 
@@ -45,16 +46,23 @@ pub open-append : (q : Question) (xs ys : List Due) → open_in q (xs ++ ys) ≡
 open-append q [] ys = (let same : open_in q ys ≡ 0 + open_in q ys = omega arith in same)
 open-append q (x ∷ xs) ys = let rest = open-append q xs ys in omega (arith, rest)
 
--- nothing is asked by a content from which nothing is expected
-pub nothing_asked : (q : Question) → CanBeAsked q → (batch : Bool) → asked_from q batch false [] ≡ 0
-nothing_asked (alone id) can true = refl
-nothing_asked (alone id) can false = refl
-nothing_asked (together []) can batch = absurd can
-nothing_asked (together (id ∷ ids)) can true = refl
-nothing_asked (together (id ∷ ids)) can false = refl
-nothing_asked unread can batch = refl
-nothing_asked unnamed can true = refl
-nothing_asked unnamed can false = refl
+-- nothing is asked by a content alone from which nothing is expected
+nothing_asked : (q : Question) → CanBeAsked q → asked_from q false false [] ≡ 0
+nothing_asked (alone id) can = refl
+nothing_asked (together ids) can = refl
+nothing_asked under_null can = refl
+
+-- nor by a batch, but for its array, or that it is refused whole
+abbrev pub IsOfIds : Question → Type 0
+IsOfIds (alone id) = ⊤
+IsOfIds (together ids) = ⊤
+IsOfIds under_null = ⊥
+
+nothing_in_batch : (q : Question) → CanBeAsked q → IsOfIds q → asked_from q true false [] ≡ 0
+nothing_in_batch (alone id) can of = refl
+nothing_in_batch (together []) can of = absurd can
+nothing_in_batch (together (id ∷ ids)) can of = refl
+nothing_in_batch under_null can of = absurd of
 
 -- ---- one that can't be read
 
@@ -175,18 +183,59 @@ closed_orderly P orderly [] ends = absurd ends
 closed_orderly P orderly (due ∷ []) ends = last_orderly (is_open due) due (orderly due ends)
 closed_orderly P orderly (due ∷ next ∷ owed) ends = (ends.0, closed_orderly P orderly (next ∷ owed) ends.1)
 
-last_open : (q : Question) → CanBeAsked q → (b : Bool) (due : Due) → is_open due ≡ b → open_in q (if b then due ∷ [] else []) ≡ open_on q due
-last_open q can true due is = (let same : open_on q due + 0 ≡ open_on q due = omega arith in same)
-last_open q can false due is =
+nothing_on : (q : Question) (batch : Bool) (due : Due) → due.is_batch ≡ batch → is_open due ≡ false → open_on q due ≡ asked_from q batch false []
+nothing_on q batch due single is =
     let parts = or_parts (not (length due.entries == 0)) due.is_unreadable due.has_huge is in
     let empty = none_left due.entries parts.0 in
-    let none : open_on q due ≡ 0 = (λ i. asked_from q due.is_batch (parts.1 i) (filter_map (λ x. x.expected) (empty i))) ∙ nothing_asked q can due.is_batch in
-    sym none
+    (λ i. asked_from q (single i) (parts.1 i) (filter_map (λ x. x.expected) (empty i)))
 
-pub closed_open : (q : Question) → CanBeAsked q → (P : Due → Type 0) (n : ℕ) → ((due : Due) → P due → open_on q due ≡ n) → (owed : List Due) → Ends P owed → open_in q (closed owed) ≡ front_in q owed + n
-closed_open q can P n counts [] ends = absurd ends
-closed_open q can P n counts (due ∷ []) ends = let last = last_open q can (is_open due) due refl in let is = counts due ends in (let same : open_in q (closed (due ∷ [])) ≡ 0 + n = omega (arith, last, is) in same)
-closed_open q can P n counts (due ∷ next ∷ owed) ends = let rest = closed_open q can P n counts (next ∷ owed) ends.1 in omega (arith, rest)
+pub nothing_alone : (q : Question) → CanBeAsked q → (due : Due) → due.is_batch ≡ false → is_open due ≡ false → open_on q due ≡ 0
+nothing_alone q can due single is = nothing_on q false due single is ∙ nothing_asked q can
+
+pub nothing_together : (q : Question) → CanBeAsked q → IsOfIds q → (due : Due) → due.is_batch ≡ true → is_open due ≡ false → open_on q due ≡ 0
+nothing_together q can of due batch is = nothing_on q true due batch is ∙ nothing_in_batch q can of
+
+last_open : (q : Question) (b : Bool) (due : Due) → (b ≡ false → open_on q due ≡ 0) → open_in q (if b then due ∷ [] else []) ≡ open_on q due
+last_open q true due none = (let same : open_on q due + 0 ≡ open_on q due = omega arith in same)
+last_open q false due none = sym (none refl)
+
+pub closed_open : (q : Question) (P : Due → Type 0) (n : ℕ) → ((due : Due) → P due → open_on q due ≡ n) → ((due : Due) → P due → is_open due ≡ false → open_on q due ≡ 0) → (owed : List Due) → Ends P owed
+    → open_in q (closed owed) ≡ front_in q owed + n
+closed_open q P n counts none [] ends = absurd ends
+closed_open q P n counts none (due ∷ []) ends =
+    let last = last_open q (is_open due) due (none due ends) in let is = counts due ends in (let same : open_in q (closed (due ∷ [])) ≡ 0 + n = omega (arith, last, is) in same)
+closed_open q P n counts none (due ∷ next ∷ owed) ends = let rest = closed_open q P n counts none (next ∷ owed) ends.1 in omega (arith, rest)
+
+-- The last content is open still, or it is forgotten: by how many there are then.
+abbrev pub IsShut : Question → List Due → List Due → Type 0
+IsShut q owed after = ((open_in q after ≡ front_in q owed + 1) × (length after ≡ length owed)) ⊎ ((open_in q after ≡ front_in q owed) × (suc (length after) ≡ length owed))
+
+last_shut : (q : Question) (b : Bool) (due : Due) → open_on q due ≡ 1 → IsShut q (due ∷ []) (if b then due ∷ [] else [])
+last_shut q true due is = inl ((let same : open_on q due + 0 ≡ 0 + 1 = omega (arith, is) in same), refl)
+last_shut q false due is = inr (refl, refl)
+
+shut_behind : (q : Question) (due next : Due) (owed after : List Due) → IsShut q (next ∷ owed) after → IsShut q (due ∷ next ∷ owed) (due ∷ after)
+shut_behind q due next owed after (inl is) = inl ((let one = is.0 in omega (arith, one)), ap suc is.1)
+shut_behind q due next owed after (inr is) = inr ((let one = is.0 in omega (arith, one)), ap suc is.1)
+
+pub closed_shut : (q : Question) (P : Due → Type 0) → ((due : Due) → P due → open_on q due ≡ 1) → (owed : List Due) → Ends P owed → IsShut q owed (closed owed)
+closed_shut q P counts [] ends = absurd ends
+closed_shut q P counts (due ∷ []) ends = last_shut q (is_open due) due (counts due ends)
+closed_shut q P counts (due ∷ next ∷ owed) ends = shut_behind q due next owed (closed (next ∷ owed)) (closed_shut q P counts (next ∷ owed) ends.1)
+
+pub more_length : (x : Owed) (P : Due → Type 0) (owed : List Due) → Ends P owed → length (owed_more x owed) ≡ length owed
+more_length x P [] ends = absurd ends
+more_length x P (due ∷ []) ends = refl
+more_length x P (due ∷ next ∷ []) ends = refl
+more_length x P (due ∷ next ∷ third ∷ owed) ends = ap suc (more_length x P (next ∷ third ∷ owed) ends.1)
+
+pub new_length : (owed : List Due) (new : Due) → length (owed ++ new ∷ []) ≡ suc (length owed)
+new_length [] new = refl
+new_length (due ∷ owed) new = ap suc (new_length owed new)
+
+pub map_length : (f : Due → Due) (owed : List Due) → length (map f owed) ≡ length owed
+map_length f [] = refl
+map_length f (due ∷ owed) = ap suc (map_length f owed)
 
 pub open_ends : (q : Question) (P : Due → Type 0) (n : ℕ) → ((due : Due) → P due → open_on q due ≡ n) → (owed : List Due) → Ends P owed → open_in q owed ≡ front_in q owed + n
 open_ends q P n counts [] ends = absurd ends
@@ -390,6 +439,8 @@ pub alone_fits : (id : WrittenId) (owed : List Due) → open_in (alone id) owed 
 alone_fits id [] = refl
 alone_fits id (due ∷ owed) = λ i. (if due.is_batch then 0 else as_expected id due.entries i) + alone_fits id owed i
 
+-- ---- what may be answered under null
+
 as_null : (entries : List Owed) → nulls (filter_map (λ x. x.expected) entries) ≡ matching expects_null entries
 as_null [] = refl
 as_null (x ∷ entries) = from x.expected refl (as_null entries)
@@ -398,9 +449,66 @@ as_null (x ∷ entries) = from x.expected refl (as_null entries)
     from None is rest = simp (is) (let same : nulls (filter_map (λ x. x.expected) entries) ≡ 0 + matching expects_null entries = omega (arith, rest) in same)
     from (Some other) is rest = simp (is, rest) refl
 
-pub unnamed_fits : (owed : List Due) → open_in unnamed owed ≡ fitting expects_null owed
-unnamed_fits [] = refl
-unnamed_fits (due ∷ owed) = λ i. (if due.is_batch then 0 else as_null due.entries i) + unnamed_fits owed i
+-- how many contents are such
+abbrev pub wholes : (Due → Bool) → List Due → ℕ
+wholes test [] = 0
+wholes test (due ∷ owed) = as_number (test due) + wholes test owed
+
+-- a batch, one that can't be read, or an entry alone
+null_on : (due : Due) → IsOrderly due → open_on under_null due ≡ as_number due.is_batch + as_number due.is_unreadable + fitting_on expects_null due
+null_on due is = from due.is_batch refl due.is_unreadable refl
+  where
+    from : (batch : Bool) → due.is_batch ≡ batch → (unread : Bool) → due.is_unreadable ≡ unread → (if batch || unread then 1 else nulls (expected_ids due)) ≡ as_number batch + as_number unread + (if batch then 0 else matching expects_null due.entries)
+    from true batch true unread = absurd (let no : true ≡ false = sym batch ∙ (is.empty unread).0 in cc)
+    from true batch false unread = refl
+    from false batch true unread = let none = ap (matching expects_null) (is.empty unread).1 in (let same : 1 ≡ 0 + 1 + matching expects_null due.entries = omega (arith, none) in same)
+    from false batch false unread = let same = as_null due.entries in (let all : nulls (expected_ids due) ≡ 0 + 0 + matching expects_null due.entries = omega (arith, same) in all)
+
+pub under_null_is : (owed : List Due) → AreOrderly owed → open_in under_null owed ≡ wholes (λ due. due.is_batch) owed + wholes (λ due. due.is_unreadable) owed + fitting expects_null owed
+under_null_is [] orderly = refl
+under_null_is (due ∷ owed) orderly = let first = null_on due orderly.0 in let rest = under_null_is owed orderly.1 in omega (arith, first, rest)
+
+-- each counts once at most
+few_nulls : (entries : List Owed) → IsFew entries → nulls (filter_map (λ x. x.expected) entries) ≤ 1
+few_nulls [] few = omega arith
+few_nulls (x ∷ []) few = from x.expected refl
+  where
+    most : (b : Bool) → as_number b + 0 ≤ 1
+    most true = omega arith
+    most false = omega arith
+
+    from : (o : Option WrittenId) → x.expected ≡ o → nulls (filter_map (λ x. x.expected) (x ∷ [])) ≤ 1
+    from None is = simp (is) (let least : 0 ≤ 1 = omega arith in least)
+    from (Some id) is = simp (is) (most (is_null id))
+few_nulls (x ∷ y ∷ entries) few = absurd few
+
+null_once : (due : Due) → IsOrderly due → open_on under_null due ≤ 1
+null_once due is = from due.is_batch refl due.is_unreadable
+  where
+    from : (batch : Bool) → due.is_batch ≡ batch → (unread : Bool) → (if batch || unread then 1 else nulls (expected_ids due)) ≤ 1
+    from true batch unread = omega arith
+    from false batch true = omega arith
+    from false batch false = few_nulls due.entries (is.few batch)
+
+pub under_null_most : (owed : List Due) → AreOrderly owed → open_in under_null owed ≤ length owed
+under_null_most [] orderly = omega arith
+under_null_most (due ∷ owed) orderly = let first = null_once due orderly.0 in let rest = under_null_most owed orderly.1 in omega (arith, first, rest)
+
+pub any_whole : (test : Due → Bool) (owed : List Due) → 1 ≤ wholes test owed → list_any test owed ≡ true
+any_whole test [] some = absurd (omega (arith, some))
+any_whole test (due ∷ owed) some = from (test due) refl (any_whole test owed)
+  where
+    from : (b : Bool) → test due ≡ b → (1 ≤ wholes test owed → list_any test owed ≡ true) → list_any test (due ∷ owed) ≡ true
+    from true is later = ap (λ b. b || list_any test owed) is
+    from false is later = ap (λ b. b || list_any test owed) is ∙ later (let none = ap as_number is in omega (arith, some, none))
+
+pub none_whole : (test : Due → Bool) (owed : List Due) → wholes test owed ≡ 0 → position test owed ≡ None
+none_whole test [] none = refl
+none_whole test (due ∷ owed) none = from (test due) refl (none_whole test owed)
+  where
+    from : (b : Bool) → test due ≡ b → (wholes test owed ≡ 0 → position test owed ≡ None) → position test (due ∷ owed) ≡ None
+    from true is later = absurd (let one = ap as_number is in omega (arith, none, one))
+    from false is later = passed_by test due owed is (later (omega (arith, none)))
 
 -- a request, or another entry
 parts_of : (request null : Bool) → as_number null ≡ as_number (request && null) + as_number (not request && null)
@@ -412,6 +520,28 @@ parts_of false false = refl
 matching_parts : (entries : List Owed) → matching expects_null entries ≡ matching is_null_request entries + matching is_null_other entries
 matching_parts [] = refl
 matching_parts (x ∷ entries) = let first = parts_of x.is_request (expects_null x) in let rest = matching_parts entries in omega (arith, first, rest)
+
+-- one that has an id, or none
+
+others_of : (other own : Bool) → as_number other ≡ as_number (other && own) + as_number (other && not own)
+others_of true true = refl
+others_of true false = refl
+others_of false own = refl
+
+abbrev pub is_named_other : Owed → Bool
+is_named_other x = is_null_other x && not (option_map_or is_null x.own true)
+
+matching_others : (entries : List Owed) → matching is_null_other entries ≡ matching is_unnamed entries + matching is_named_other entries
+matching_others [] = refl
+matching_others (x ∷ entries) = let first = others_of (is_null_other x) (option_map_or is_null x.own true) in let rest = matching_others entries in omega (arith, first, rest)
+
+others_by : (batch : Bool) (entries : List Owed) → (if batch then 0 else matching is_null_other entries) ≡ (if batch then 0 else matching is_unnamed entries) + (if batch then 0 else matching is_named_other entries)
+others_by true entries = refl
+others_by false entries = matching_others entries
+
+pub other_parts : (owed : List Due) → fitting is_null_other owed ≡ fitting is_unnamed owed + fitting is_named_other owed
+other_parts [] = refl
+other_parts (due ∷ owed) = let first = others_by due.is_batch due.entries in let rest = other_parts owed in omega (arith, first, rest)
 
 fitting_by : (batch : Bool) (entries : List Owed) → (if batch then 0 else matching expects_null entries) ≡ (if batch then 0 else matching is_null_request entries) + (if batch then 0 else matching is_null_other entries)
 fitting_by true entries = refl
@@ -457,9 +587,12 @@ whole_by test due owed false fit is orderly later =
       left = λ q. let e = rest.left q in (let same : open_on q due + open_in q owed ≡ open_on q due + open_in q (remove owed rest.content) + open_on q rest.it = omega (arith, e) in same);
     }
 
-module _ (asked : Question) (test : Due → Bool) (counts : (due : Due) → open_on asked due ≡ as_number (test due)) where
-  pub takes_whole : (owed : List Due) → AreOrderly owed → 1 ≤ open_in asked owed → TakesWhole test owed
-  takes_whole [] orderly some = absurd (omega (arith, some))
-  takes_whole (due ∷ owed) orderly some =
-      whole_by test due owed (test due) refl orderly.0 orderly.1
-      (λ isnt. takes_whole owed orderly.1 (let none = counts due ∙ ap as_number isnt in omega (arith, some, none)))
+pub takes_whole : (test : Due → Bool) (owed : List Due) → AreOrderly owed → 1 ≤ wholes test owed → TakesWhole test owed
+takes_whole test [] orderly some = absurd (omega (arith, some))
+takes_whole test (due ∷ owed) orderly some =
+    whole_by test due owed (test due) refl orderly.0 orderly.1
+    (λ isnt. takes_whole test owed orderly.1 (let none = ap as_number isnt in omega (arith, some, none)))
+
+pub together_wholes : (ids : List WrittenId) (owed : List Due) → open_in (together ids) owed ≡ wholes (is_just ids) owed
+together_wholes ids [] = refl
+together_wholes ids (due ∷ owed) = ap (λ n. as_number (is_just ids due) + n) (together_wholes ids owed)

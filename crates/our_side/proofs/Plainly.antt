@@ -1,5 +1,6 @@
 -- All of a conversation.
-use Rattle.std.proofs.Common.{◌≡◌, ℕ, ◌+◌, ◌≤◌, Bool, false, List, [], ◌∷◌, ◌++◌, drop, take, refl, sym, ap, subst, ◌∙◌, arith, take-append-drop}
+use Rattle.std.proofs.Common.{◌≡◌, inl, inr, ℕ, ◌+◌, ◌≤◌, Bool, false, List, [], ◌∷◌, ◌++◌, drop, take, length, min, refl, sym, ap, subst, ◌∙◌, arith, take-append-drop}
+use Rattle.std.proofs.Math.Nat.{min-le_left}
 use Rattle.std.proofs.lemmas.List.{take-append-le}
 use Rattle.std.specs.Prelude.{⊤}
 use Rattle.lsp_frames.specs.declared.frame.Frame.{Frame}
@@ -9,19 +10,21 @@ use Rattle.content_streams.specs.Streams.{Stream, placed_contents}
 use Rattle.content_streams.specs.declared.framing.Framing.{Framing}
 use Rattle.conversation_reading.specs.Strictly.{limited_reading}
 use Rattle.conversation_rules.specs.Contents.{content_outcome, next_message, counted}
-use Rattle.conversation_rules.specs.Judging.{Seen, State, stream_of, pair_of, new_state, state_of, state_from, findings_of, fault_rule}
+use Rattle.conversation_rules.specs.Judging.{Seen, State, stream_of, pair_of, new_state, state_of, state_from, findings_of, fault_rule, fault_finding, fault_findings, unanswered_findings}
 use Rattle.conversation_rules.specs.Speakers.{Pair}
 use Rattle.conversation_rules.specs.declared.finding.Finding.{Finding}
 use Rattle.conversation_rules.specs.declared.finding.Limits.{Limits}
 use Rattle.conversation_rules.specs.declared.protocol.Protocol.{Protocol}
+use Rattle.conversation_rules.specs.declared.reply.Refusals.{Refusals}
 use Rattle.conversation_rules.specs.declared.side.Side.{Side}
 use Rattle.conversation_rules.specs.declared.side.Side.TheVariants.{Client, Server}
 use Rattle.conversation_rules.proofs.Growing.{state_from-append}
-use Rattle.our_side.specs.Asked.{Question, CanBeAsked, answered_by, asked_in, answered_in, AllSay, judged}
-use Rattle.our_side.specs.Breaking.{BreaksNone, is_of_answers}
-use Rattle.our_side.proofs.Answering.{ask_content, fair, our_may, our_behind}
+use Rattle.our_side.specs.Asked.{Question, alone, together, under_null, CanBeAsked, asked_by, answered_by, asked_in, answered_in, AllSay, judged}
+use Rattle.our_side.specs.Breaking.{AccusesNone, is_of_answers}
+use Rattle.our_side.proofs.Answering.{Spared, silent_spared, silent_each, hosts, ask_content, our_may, our_behind}
 use Rattle.our_side.proofs.Both.{Placed, KeepsBoth, both_each, step_steady}
-use Rattle.our_side.proofs.Fair.{Silent, own_hosts, own_is, their_content, faults_each, their_fault_each, we_left_each, they_left_each, breaks_none}
+use Rattle.our_side.proofs.Fair.{own_is, their_content, faults_each, their_fault_each, we_left_each, they_left_each}
+use Rattle.our_side.proofs.Kept.{Enough, enough_left, enough_asked, enough_less}
 use Rattle.our_side.proofs.Formed.{reading_formed}
 use Rattle.our_side.proofs.Open.{open_in, AreOrderly}
 use Rattle.our_side.proofs.Streaming.{other, swap, Later, Grow, grown, all_later, IsSteady}
@@ -47,9 +50,13 @@ no_rule HeadTooLong = refl
 no_rule Truncated = refl
 no_rule LongLength = refl
 
+accuses_none : (side : Side) (findings : List Finding) → Each (Spared side) findings → AccusesNone side is_of_answers findings
+accuses_none side [] each = tt
+accuses_none side (f ∷ fs) each = (each.0, accuses_none side fs each.1)
+
 module _ (protocol : Protocol) (side : Side) (mine yours : Stream) where
   abbrev P : Finding → Type 0
-  P = Silent side is_of_answers
+  P = Spared side
 
   -- nothing was answered more often than it was asked, by what is still to come
   abbrev pub Timely : Placed → Placed → Type 0
@@ -64,7 +71,18 @@ module _ (protocol : Protocol) (side : Side) (mine yours : Stream) where
   pub record Holds (ours theirs : Placed) (pair : Pair) : Type 0 where
     pub says : AllSay ours
     pub orderly : AreOrderly pair.other.owed
-    pub enough : IsMore ours → (q : Question) → CanBeAsked q → asked_in q (placed_contents yours) + answered_in q ours ≤ open_in q pair.other.owed + asked_in q theirs + answered_in q (placed_contents mine)
+    pub enough : IsMore ours → (q : Question) → CanBeAsked q → Enough q pair.other.refusals (asked_in q (placed_contents yours) + answered_in q ours) (open_in q pair.other.owed + (asked_in q theirs + answered_in q (placed_contents mine)))
+
+  -- a content that comes counts no more as refused than is open
+  fewer_refused : (q : Question) (r : Refusals) (most asked there : ℕ) → Enough q r asked there → Enough q (record r { refused = min r.refused most }) asked there
+  fewer_refused (alone id) r most asked there enough = enough
+  fewer_refused (together ids) r most asked there enough = enough
+  fewer_refused under_null r most asked there (inl is) = inl is
+  fewer_refused under_null r most asked there (inr enough) = inr (let less = min-le_left r.refused most in omega (arith, enough, less))
+
+  enough_less_sum : (q : Question) (r : Refusals) (asked there first rest answered : ℕ) → Enough q r asked (there + (first + rest + answered)) → Enough q r asked (there + (first + (rest + answered)))
+  enough_less_sum q r asked there first rest answered (inl most) = inl most
+  enough_less_sum q r asked there first rest answered (inr enough) = inr (omega (arith, enough))
 
   more_timely : (new rest theirs : Placed) → Timely rest theirs → Timely (new ++ rest) theirs
   more_timely new rest theirs timely = λ q can. let le = timely q can in let sum = answered-append q new rest in omega (arith, le, sum)
@@ -74,13 +92,22 @@ module _ (protocol : Protocol) (side : Side) (mine yours : Stream) where
   ours is_unfinished placed rest theirs pair timely holds =
       let message = next_message side placed.0 pair in
       let reading = limited_reading placed.1.foreign placed.1.content in
-      let expects : (q : Question) → CanBeAsked q → 1 ≤ answered_by q reading → 1 ≤ open_in q pair.other.owed = λ q can some. let have = holds.enough tt q can in let time = timely q can in omega (arith, have, time, some) in
+      let expects : (q : Question) → CanBeAsked q → 1 ≤ answered_by q reading → Enough q pair.other.refusals 1 (open_in q pair.other.owed) = λ q can some.
+      let time = timely q can in
+      enough_less q pair.other.refusals (asked_in q (placed_contents yours) + answered_in q (placed ∷ rest)) (open_in q pair.other.owed + (asked_in q theirs + answered_in q (placed_contents mine))) 1 (open_in q pair.other.owed)
+      (holds.enough tt q can) (omega (arith, time, some)) in
       let behind = our_behind side protocol message refl is_unfinished (counted pair) reading holds.orderly holds.says.0 expects in (
-        reading_each P message (own_hosts side is_of_answers message refl (fair side)) protocol is_unfinished (counted pair) reading (our_may side protocol message refl is_unfinished (counted pair) reading holds.orderly holds.says.0 expects),
+        reading_each P message (hosts side message refl) protocol is_unfinished (counted pair) reading (our_may side protocol message refl is_unfinished (counted pair) reading holds.orderly holds.says.0 expects),
         record {
           says = holds.says.1;
           orderly = behind.orderly_after;
-          enough = λ more q can. let have = holds.enough tt q can in let left = behind.enough q can in omega (arith, have, left);
+          enough = λ more q can.
+              let next = (content_outcome protocol side is_unfinished placed pair).pair.other in
+              enough_less q next.refusals (asked_in q (placed_contents yours) + answered_in q (placed ∷ rest)) (open_in q next.owed + (asked_in q theirs + answered_in q (placed_contents mine)) + answered_by q reading)
+              (asked_in q (placed_contents yours) + answered_in q rest) (open_in q next.owed + (asked_in q theirs + answered_in q (placed_contents mine)))
+              (enough_left q pair.other.refusals next.refusals (open_in q pair.other.owed) (open_in q next.owed) (answered_by q reading) (asked_in q (placed_contents yours) + answered_in q (placed ∷ rest))
+              (asked_in q theirs + answered_in q (placed_contents mine)) (behind.leaves q can) (holds.enough tt q can))
+              (omega arith);
         },
       )
 
@@ -90,11 +117,18 @@ module _ (protocol : Protocol) (side : Side) (mine yours : Stream) where
       let message = next_message (other side) placed.0 (swap pair) in
       let reading = limited_reading placed.1.foreign placed.1.content in
       let got = ask_content protocol is_unfinished message (counted (swap pair)) reading holds.orderly (reading_formed placed.1.foreign placed.1.content) in (
-        their_content side is_of_answers protocol is_unfinished placed (swap pair),
+        silent_each side (content_outcome protocol (other side) is_unfinished placed (swap pair)).findings (their_content side is_of_answers protocol is_unfinished placed (swap pair)),
         record {
           says = holds.says;
           orderly = got.orderly;
-          enough = λ some q can. let have = holds.enough some q can in let more = got.opened q can in omega (arith, have, more);
+          enough = λ some q can.
+              let before = (counted (swap pair)).own in
+              let next = (content_outcome protocol (other side) is_unfinished placed (swap pair)).pair.own in
+              let asked = asked_in q (placed_contents yours) + answered_in q ours in
+              let more = asked_in q rest + answered_in q (placed_contents mine) in
+              enough_asked q before.refusals next.refusals (open_in q pair.other.owed) (open_in q next.owed) (asked_by q reading) asked more (got.opened q can)
+              (enough_less_sum q before.refusals asked (open_in q pair.other.owed) (asked_by q reading) (asked_in q rest) (answered_in q (placed_contents mine))
+              (fewer_refused q pair.other.refusals (length pair.other.owed) asked (open_in q pair.other.owed + (asked_by q reading + asked_in q rest + answered_in q (placed_contents mine))) (holds.enough some q can)));
         },
       )
 
@@ -107,10 +141,10 @@ module _ (protocol : Protocol) (side : Side) (mine yours : Stream) where
     their_end = λ s ours theirs pair holds. record { says = holds.says; orderly = holds.orderly; enough = holds.enough };
     we_ended = λ s ours theirs pair later is none holds. record { says = holds.says; orderly = tt; enough = λ more. absurd (subst IsMore none more) };
     they_ended = λ ours theirs pair holds. record { says = holds.says; orderly = holds.orderly; enough = holds.enough };
-    our_fault = λ s pair later. faults_each P side s pair (λ place fault is. own_is side (is_of_answers (fault_rule fault)) (no_rule fault));
-    their_fault = their_fault_each side is_of_answers;
-    we_left = we_left_each side is_of_answers refl protocol;
-    they_left = they_left_each side is_of_answers protocol;
+    our_fault = λ s pair later. faults_each P side s pair (λ place fault is. silent_spared side (fault_finding side place pair fault) (own_is side (is_of_answers (fault_rule fault)) (no_rule fault)));
+    their_fault = λ s pair. silent_each side (fault_findings (other side) s pair) (their_fault_each side is_of_answers s pair);
+    we_left = λ end pair. silent_each side (unanswered_findings protocol side end pair) (we_left_each side is_of_answers refl protocol end pair);
+    they_left = λ end pair. silent_each side (unanswered_findings protocol (other side) end pair) (they_left_each side is_of_answers protocol end pair);
   }
 
 -- ---- what was judged by then
@@ -126,6 +160,16 @@ start_steady Server framing limits = omega arith
 start_orderly : (side : Side) (framing : Framing) (limits : Limits) → AreOrderly (pair_of side (new_state framing limits)).other.owed
 start_orderly Client framing limits = tt
 start_orderly Server framing limits = tt
+
+-- nothing is open, asked or refused
+start_enough : (side : Side) (framing : Framing) (limits : Limits) (q : Question) (asked answered : ℕ)
+    → Enough q (pair_of side (new_state framing limits)).other.refusals (asked + answered) (open_in q (pair_of side (new_state framing limits)).other.owed + (asked + answered))
+start_enough Client framing limits (alone id) asked answered = inr (omega arith)
+start_enough Client framing limits (together ids) asked answered = inr (omega arith)
+start_enough Client framing limits under_null asked answered = inr (omega arith)
+start_enough Server framing limits (alone id) asked answered = inr (omega arith)
+start_enough Server framing limits (together ids) asked answered = inr (omega arith)
+start_enough Server framing limits under_null asked answered = inr (omega arith)
 
 start_untaken : (side : Side) (framing : Framing) (limits : Limits) (contents : Placed) → drop (stream_of side (new_state framing limits)).taken contents ≡ contents
 start_untaken Client framing limits contents = refl
@@ -161,14 +205,14 @@ module _ (grow : Grow) (protocol : Protocol) (side : Side) (framing : Framing) (
   pub answers_none : AllSay (placed_contents mine)
       → ((before after : List Seen) → seen ≡ before ++ after → (q : Question) → CanBeAsked q
       → answered_in q (judged (stream_of side (state_of protocol framing limits before))) ≤ asked_in q (judged (stream_of (other side) (state_of protocol framing limits before))))
-      → BreaksNone side is_of_answers (findings_of protocol framing limits seen)
+      → AccusesNone side is_of_answers (findings_of protocol framing limits seen)
   answers_none says counts =
-      breaks_none side is_of_answers (findings_of protocol framing limits seen)
-      (both_each grow protocol side (Silent side is_of_answers) (Timely protocol side mine yours) (Holds protocol side mine yours) mine yours (keeps protocol side mine yours) seen start
+      accuses_none side (findings_of protocol framing limits seen)
+      (both_each grow protocol side (Spared side) (Timely protocol side mine yours) (Holds protocol side mine yours) mine yours (keeps protocol side mine yours) seen start
       (start_steady side framing limits) (start_steady (other side) framing limits)
       (subst (λ xs. Holds protocol side mine yours xs (drop (stream_of (other side) start).taken (placed_contents yours)) (pair_of side start)) (sym (start_untaken side framing limits (placed_contents mine)))
       (subst (λ ys. Holds protocol side mine yours (placed_contents mine) ys (pair_of side start)) (sym (start_untaken (other side) framing limits (placed_contents yours)))
-      (record { says = says; orderly = start_orderly side framing limits; enough = λ more q can. omega arith })))
+      (record { says = says; orderly = start_orderly side framing limits; enough = λ more q can. start_enough side framing limits q (asked_in q (placed_contents yours)) (answered_in q (placed_contents mine)) })))
       refl refl
       (λ front back split q can.
       let count = counts front back split q can in

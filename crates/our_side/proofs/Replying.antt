@@ -1,7 +1,7 @@
 -- What a connection says, as it is read.
-use Rattle.std.proofs.Common.{◌≡◌, inl, inr, ◌&&◌, not, ℕ, zero, suc, ◌+◌, ◌≤◌, Bool, true, false, if◌then◌else◌, List, [], ◌∷◌, ◌++◌, map, take, Option, Some, refl, ap, ◌∙◌, arith}
-use Rattle.std.specs.Option.{option_map_or, option_to_list}
-use Rattle.std.specs.Prelude.{⊤, pos, negsuc, option_and_then}
+use Rattle.std.proofs.Common.{◌≡◌, inl, inr, ℕ, zero, suc, ◌+◌, ◌≤◌, Bool, true, false, if◌then◌else◌, List, [], ◌∷◌, ◌++◌, map, take, Option, Some, refl, ap, ◌∙◌, arith}
+use Rattle.std.specs.Option.{option_to_list}
+use Rattle.std.specs.Prelude.{⊤, pos, negsuc}
 use Rattle.lsp_frames.specs.declared.frame.Frame.{Frame}
 use Rattle.connection.specs.BackToBack.{Message, call, calls, notice, withdrawal, answer, answers, text_of}
 use Rattle.connection_messages.specs.ReadBack.{IsId, AreAnswers as AreGiven, answer_texts}
@@ -10,24 +10,21 @@ use Rattle.connection_messages.specs.declared.answer.Answer.{Answer as Given}
 use Rattle.connection_messages.specs.declared.cancels.Cancels.{Cancels}
 use Rattle.content_streams.specs.Streams.{plain}
 use Rattle.conversation_reading.specs.Strictly.{reading_of, limited_reading}
-use Rattle.conversation_reading.specs.Wholes.{whole_of}
 use Rattle.conversation_reading.specs.declared.entry.Entry.{Entry}
 use Rattle.conversation_reading.specs.declared.entry.Kind.{Kind}
 use Rattle.conversation_reading.specs.declared.entry.Kind.TheVariants.{Request, Notification, Answer}
 use Rattle.conversation_reading.specs.declared.entry.WrittenId.{WrittenId}
 use Rattle.conversation_reading.specs.declared.reading.Reading.{Reading}
 use Rattle.conversation_reading.specs.declared.reading.Reading.TheVariants.{Foreign, NotText, NotJson, OverLimits, HalfPair, Single, Array}
-use Rattle.conversation_rules.specs.Amounts.{is_null}
-use Rattle.conversation_rules.specs.Entries.{is_answer, is_between}
+use Rattle.conversation_rules.specs.Entries.{is_answer, is_well}
 use Rattle.judge_laws.proofs.Batches.{calls_messages, answers_messages, answers_named}
-use Rattle.judge_laws.proofs.Failures.{answer_message, answer_named, answer_coded}
+use Rattle.judge_laws.proofs.Failures.{answer_message, answer_named}
 use Rattle.judge_laws.proofs.SaidStrictly.{call_message, notice_message, withdrawal_message}
-use Rattle.judge_laws.specs.Messages.{AreEntries, IsMessage, AreMessages, HasId, HasCode, EachHasId, HaveIds, written_as, code_of}
+use Rattle.judge_laws.specs.Messages.{AreEntries, IsMessage, AreMessages, HasId, EachHasId, HaveIds, written_as}
 use Rattle.message_ids.specs.declared.id.Id.{Id}
 use Rattle.message_ids.specs.declared.id.Id.TheVariants as ids
-use Rattle.our_side.specs.Answered.{says_unread, said_alone, said_together, total}
-use Rattle.our_side.specs.Asked as says
-use Rattle.our_side.specs.Asked.{IsPlain, AreNoAnswers, AreAnswers, Says, AllSay, Question, alone, together, unread, unnamed, CanBeAsked, as_number, answered_under, ids_answered, answered_together, answered_by, answered_in}
+use Rattle.our_side.specs.Answered.{said_alone, said_together, total}
+use Rattle.our_side.specs.Asked.{IsPlain, AreNoAnswers, AreAnswers, Says, AllSay, Question, alone, together, under_null, CanBeAsked, as_number, answered_under, ids_answered, answered_together, answered_by, answered_in}
 use Rattle.our_side.proofs.Asking.{counts, counts_all}
 use Rattle.connection.proofs.SaidSound.{IsSound, AreSound}
 use Rattle.our_side.proofs.Limited.{limited_keeps}
@@ -56,7 +53,7 @@ other_says kind (Single entry) m other is =
     let none : is_answer entry.kind ≡ false = ap is_answer is.kind_is ∙ other in
     record {
       says = λ one. no (is_answer entry.kind) one none;
-      few = λ q can. let zero_times : answered_by q (Single entry) ≡ 0 = ap (λ b. if b then answered_under q (says.says_unread entry) entry.id else 0) none in omega (arith, zero_times);
+      few = λ q can. let zero_times : answered_by q (Single entry) ≡ 0 = ap (λ b. if b then answered_under q entry.id else 0) none in omega (arith, zero_times);
     }
 other_says kind (Array entries) m other is = absurd is
 
@@ -72,8 +69,7 @@ nothing_together : (q : Question) → CanBeAsked q → answered_together q [] �
 nothing_together (alone id) can = refl
 nothing_together (together []) can = absurd can
 nothing_together (together (id ∷ more)) can = refl
-nothing_together unread can = refl
-nothing_together unnamed can = refl
+nothing_together under_null can = refl
 
 others_say : (kind : Kind) (reading : Reading) (m : Message) → is_answer kind ≡ false → AreMessages kind reading → SaysAs reading m
 others_say kind Foreign m other are = absurd are
@@ -99,27 +95,26 @@ id_plain (ids.Signed (pos n)) is = absurd is
 id_plain (ids.Signed (negsuc n)) is = inr (n, is, refl)
 id_plain (ids.Unsigned n) is = inl (n, is, refl)
 
-under_few : (q : Question) (o : Id) (a : Given) (says : Bool) → says ≡ says_unread a → answered_under q says (Some (written_as o)) ≤ as_number (counts q (o, a))
-under_few (alone id) o a says same = omega arith
-under_few (together all) o a says same = omega arith
-under_few unread o a says same = let equal = ap (λ b. as_number (is_null (written_as o) && b)) same in omega (arith, equal)
-under_few unnamed o a says same = let equal = ap (λ b. as_number (is_null (written_as o) && not b)) same in omega (arith, equal)
+under_few : (q : Question) (o : Id) (a : Given) → answered_under q (Some (written_as o)) ≤ as_number (counts q (o, a))
+under_few (alone id) o a = omega arith
+under_few (together all) o a = omega arith
+under_few under_null o a = omega arith
 
-answer_says : (o : Id) (a : Given) (reading : Reading) → IsId o → IsMessage Answer reading → HasId (written_as o) reading → HasCode (code_of a) reading → SaysAs reading (answer o a)
-answer_says o a Foreign known is named coded = absurd is
-answer_says o a NotText known is named coded = absurd is
-answer_says o a NotJson known is named coded = absurd is
-answer_says o a OverLimits known is named coded = absurd is
-answer_says o a HalfPair known is named coded = absurd is
-answer_says o a (Single entry) known is named coded = record {
-  says = λ one. (written_as o, id_plain o known, named);
+answer_says : (o : Id) (a : Given) (reading : Reading) → IsId o → IsMessage Answer reading → HasId (written_as o) reading → SaysAs reading (answer o a)
+answer_says o a Foreign known is named = absurd is
+answer_says o a NotText known is named = absurd is
+answer_says o a NotJson known is named = absurd is
+answer_says o a OverLimits known is named = absurd is
+answer_says o a HalfPair known is named = absurd is
+answer_says o a (Single entry) known is named = record {
+  says = λ one. (ap is_well is.kind_is, (written_as o, id_plain o known, named));
   few = λ q can.
       let one : is_answer entry.kind ≡ true = ap is_answer is.kind_is in
-      let once : answered_by q (Single entry) ≡ answered_under q (says.says_unread entry) (Some (written_as o)) = (λ i. if one i then answered_under q (says.says_unread entry) (named i) else 0) in
-      let few = under_few q o a (says.says_unread entry) (ap (λ code. option_map_or (is_between 32700 32700) (option_and_then whole_of code) false) coded) in
+      let once : answered_by q (Single entry) ≡ answered_under q (Some (written_as o)) = (λ i. if one i then answered_under q (named i) else 0) in
+      let few = under_few q o a in
       omega (arith, once, few);
 }
-answer_says o a (Array entries) known is named coded = absurd is
+answer_says o a (Array entries) known is named = absurd is
 
 abbrev ids_given : List (Id × Given) → List WrittenId
 ids_given all = map (λ a. written_as a.0) all
@@ -142,8 +137,8 @@ ids_are (a ∷ all) (entry ∷ entries) are named =
 together_few : (q : Question) (those : List Id) → answered_together q (map written_as those) ≤ as_number (counts_all q those)
 together_few (alone id) those = omega arith
 together_few (together all) those = omega arith
-together_few unread those = omega arith
-together_few unnamed those = omega arith
+together_few under_null [] = omega arith
+together_few under_null (id ∷ those) = omega arith
 
 answers_say : (all : List (Id × Given)) (reading : Reading) → AreGiven all → AreMessages Answer reading → HaveIds (ids_given all) reading → SaysAs reading (answers all)
 answers_say all Foreign given are named = absurd are
@@ -168,7 +163,7 @@ message_read cancels (calls key (o ∷ os)) sound = others_say Request (reading_
 message_read cancels (notice o) sound = other_says Notification (reading_of false (notice_text o)) (notice o) refl (notice_message o sound)
 message_read cancels (withdrawal by key) sound = other_says Notification (reading_of false (withdrawal_text by key)) (withdrawal by key) refl (withdrawal_message by key sound.0)
 message_read cancels (answer id a) sound =
-    answer_says id a (reading_of false (answer_text id a)) sound.0 (answer_message id a sound.0 sound.1) (answer_named id a sound.0 sound.1) (answer_coded id a sound.0 sound.1)
+    answer_says id a (reading_of false (answer_text id a)) sound.0 (answer_message id a sound.0 sound.1) (answer_named id a sound.0 sound.1)
 message_read cancels (answers []) sound = absurd sound
 message_read cancels (answers (a ∷ more)) sound =
     answers_say (a ∷ more) (reading_of false (batch_text (answer_texts (a ∷ more)))) sound (answers_messages a more sound) (answers_named a more sound)

@@ -169,13 +169,13 @@ module _ (P : Finding → Type 0) (message : Message) (answering : Answering P m
 
   single_found_each : (protocol : Protocol) (sight : Sight) (reply : Reply) (rest : List Due) (o : Option Found) → Each P (single_findings_of protocol sight message reply rest o)
   single_found_each protocol sight reply rest None =
-      each_unless P (refuses sight.refused reply rest) (found message reply.at rules.NotOwed Note ∷ []) (not_owed_findings sight message (stray_of reply ∷ []) rest)
-      (answering.not_owed reply.at Note, tt) (not_owed_each sight (stray_of reply ∷ []) rest)
+      each_unless P (refuses sight reply rest) (found_if reply.is_well (found message reply.at rules.NotOwed Note)) (not_owed_findings sight message (stray_of reply ∷ []) rest)
+      (each_if P reply.is_well (found message reply.at rules.NotOwed Note) (λ is. answering.not_owed reply.at Note)) (not_owed_each sight (stray_of reply ∷ []) rest)
   single_found_each protocol sight reply rest (Some Whole) = tt
   single_found_each protocol sight reply rest (Some (EntryFit fit)) = single_fit_each protocol sight reply fit
 
   pub single_each : (protocol : Protocol) (sight : Sight) (reply : Reply) (id : Option WrittenId) (owed : List Due) → Each P (single_findings protocol sight message reply id owed)
-  single_each protocol sight reply id owed = single_found_each protocol sight reply (rest_of protocol reply id owed) (dues.found (target_of protocol reply id owed) owed)
+  single_each protocol sight reply id owed = single_found_each protocol sight reply (rest_of sight reply id owed) (dues.found (target_of sight reply id owed) owed)
 
   taken_each : (protocol : Protocol) (sight : Sight) (reply : Reply) (fit : Option Fit) → Each P (taken_findings protocol sight message reply fit)
   taken_each protocol sight reply None = tt

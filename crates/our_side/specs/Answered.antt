@@ -1,11 +1,8 @@
 -- How often a connection answers an id, and how often it was asked; and the same of answers that go out alone, and of arrays.
-use Rattle.std.specs.Prelude.{◌≡◌, ◌≢◌, ℕ, ◌+◌, List, [], ◌∷◌, ◌++◌, length, Bool, false, map, Option, Some, option_and_then, ⊤}
-use Rattle.std.specs.Option.{option_map_or, option_to_list}
+use Rattle.std.specs.Prelude.{◌≡◌, ◌≢◌, ℕ, ◌+◌, List, [], ◌∷◌, ◌++◌, length, Bool, map, Option, Some, ⊤}
+use Rattle.std.specs.Option.{option_to_list}
 use Rattle.connection_history.specs.History.{History, answer_to, units_of}
 use Rattle.connection_history.specs.Stream.{entries_in, calls_in}
-use Rattle.conversation_reading.specs.Wholes.{whole_of}
-use Rattle.conversation_rules.specs.Entries.{is_between}
-use Rattle.judge_laws.specs.Messages.{code_of}
 use Rattle.message_ids.specs.Ids.{has_id}
 use Rattle.message_ids.specs.declared.id.Id.{Id}
 use Rattle.message_ids.specs.declared.id.Id.TheVariants.{Null}
@@ -132,11 +129,3 @@ OfUnits P history n (u ∷ us) = OfUnit P history n u × OfUnits P history (n + 
 
 abbrev pub OfSingleCalls : (Id → Answer → Type 0) → History → Type 0
 OfSingleCalls P history = OfUnits P history 1 (units_of history)
-
--- an answer says that what came can't be read
-abbrev pub says_unread : Answer → Bool
-says_unread a = option_map_or (is_between 32700 32700) (option_and_then whole_of (code_of a)) false
-
--- The host says so of no call that came alone with the id null.
-abbrev pub ReadsNullCalls : History → Type 0
-ReadsNullCalls history = OfSingleCalls (λ id a. id ≡ Null → says_unread a ≡ false) history

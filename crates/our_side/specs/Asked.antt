@@ -1,5 +1,5 @@
--- How often something is asked, and answered: an id alone, the ids of a batch, and what can't be read or is invalid.
-use Rattle.std.specs.Prelude.{◌≡◌, ◌⊎◌, ◌+◌, ◌<◌, ◌^◌, ℕ, suc, ◌&&◌, not, List, [], ◌∷◌, ◌++◌, Bool, true, false, Option, Some, option_and_then, decimal, take, ⊤, if◌then◌else◌}
+-- How often something is asked, and answered: an id alone, the ids of a batch, and null.
+use Rattle.std.specs.Prelude.{◌≡◌, ◌⊎◌, ◌+◌, ◌<◌, ◌^◌, ℕ, suc, ◌&&◌, ◌||◌, List, [], ◌∷◌, ◌++◌, Bool, true, false, Option, Some, option_and_then, decimal, take, ⊤, if◌then◌else◌}
 use Rattle.std.specs.Option.{option_map_or, option_to_list}
 use Rattle.lsp_frames.specs.declared.frame.Frame.{Frame}
 use Rattle.content_streams.specs.Streams.{Stream, placed_contents}
@@ -10,7 +10,7 @@ use Rattle.conversation_reading.specs.declared.entry.WrittenId.TheVariants.{Null
 use Rattle.conversation_reading.specs.declared.reading.Reading.{Reading}
 use Rattle.conversation_reading.specs.declared.reading.Reading.TheVariants.{Foreign, NotText, NotJson, OverLimits, HalfPair, Single, Array}
 use Rattle.conversation_rules.specs.Amounts.{same_id, is_null}
-use Rattle.conversation_rules.specs.Entries.{is_answer, is_between, code_of}
+use Rattle.conversation_rules.specs.Entries.{is_answer, is_well}
 use Rattle.conversation_rules.specs.Matching.{same_ids}
 use Rattle.conversation_rules.specs.Owed.{owed_on}
 use Rattle.conversation_rules.specs.declared.protocol.Protocol.TheVariants.{JsonRpc}
@@ -61,32 +61,31 @@ abbrev pub AreAnswers : List Entry → Type 0
 AreAnswers [] = ⊤
 AreAnswers (entry ∷ entries) = (is_answer entry.kind ≡ true) × HasPlain entry × AreAnswers entries
 
--- An answer has such an id, and an array has no answer, or is one of answers alone.
+-- A single answer breaks no rule by itself and has such an id, and an array has no answer, or is one of answers alone.
 abbrev pub Says : Reading → Type 0
 Says Foreign = ⊥
 Says NotText = ⊥
 Says NotJson = ⊥
 Says OverLimits = ⊤
 Says HalfPair = ⊥
-Says (Single entry) = is_answer entry.kind ≡ true → HasPlain entry
+Says (Single entry) = is_answer entry.kind ≡ true → (is_well entry.kind ≡ true) × HasPlain entry
 Says (Array entries) = AreNoAnswers entries ⊎ AreAnswers entries
 
 -- ---- how often
 
--- What is counted: an id alone; the ids of a batch together, in any order; what can't be read, which is answered by -32700
--- under the id null; and what stands alone and is expected to be answered under null, as what is invalid: by another code.
+-- What is counted: an id alone; the ids of a batch together, in any order; and what may be answered alone under the id null:
+-- what can't be read, what stands alone and is expected to be answered so, as what is invalid, and a batch, which may be
+-- refused whole. Its array answers a batch as well.
 pub data Question : Type 0 where
   alone : WrittenId → Question
   together : List WrittenId → Question
-  unread : Question
-  unnamed : Question
+  under_null : Question
 
 abbrev pub CanBeAsked : Question → Type 0
 CanBeAsked (alone id) = IsNamed id
 CanBeAsked (together []) = ⊥
 CanBeAsked (together (id ∷ ids)) = ArePlain (id ∷ ids)
-CanBeAsked unread = ⊤
-CanBeAsked unnamed = ⊤
+CanBeAsked under_null = ⊤
 
 abbrev pub as_number : Bool → ℕ
 as_number true = 1
@@ -105,8 +104,7 @@ nulls (id ∷ ids) = as_number (is_null id) + nulls ids
 abbrev pub asked_from : Question → Bool → Bool → List WrittenId → ℕ
 asked_from (alone id) is_batch is_unread ids = if is_batch then 0 else times id ids
 asked_from (together all) is_batch is_unread ids = as_number (is_batch && same_ids all ids)
-asked_from unread is_batch is_unread ids = as_number is_unread
-asked_from unnamed is_batch is_unread ids = if is_batch then 0 else nulls ids
+asked_from under_null is_batch is_unread ids = if is_batch || is_unread then 1 else nulls ids
 
 abbrev pub asked_by : Question → Reading → ℕ
 asked_by question Foreign = asked_from question false true []
@@ -118,16 +116,11 @@ asked_by question (Single entry) = asked_from question false false (option_to_li
 asked_by question (Array []) = asked_from question false false (Null ∷ [])
 asked_by question (Array (entry ∷ entries)) = asked_from question true false (ids_expected (entry ∷ entries))
 
--- an answer's code is -32700
-abbrev pub says_unread : Entry → Bool
-says_unread entry = option_map_or (is_between 32700 32700) (code_of entry) false
-
 -- a single answer
-abbrev pub answered_under : Question → Bool → Option WrittenId → ℕ
-answered_under (alone id) says id_of = as_number (option_map_or (same_id id) id_of false)
-answered_under (together ids) says id_of = 0
-answered_under unread says id_of = as_number (option_map_or is_null id_of false && says)
-answered_under unnamed says id_of = as_number (option_map_or is_null id_of false && not says)
+abbrev pub answered_under : Question → Option WrittenId → ℕ
+answered_under (alone id) id_of = as_number (option_map_or (same_id id) id_of false)
+answered_under (together ids) id_of = 0
+answered_under under_null id_of = as_number (option_map_or is_null id_of false)
 
 -- the answers of an array
 abbrev pub ids_answered : List Entry → List WrittenId
@@ -137,8 +130,8 @@ ids_answered (entry ∷ entries) = if is_answer entry.kind then option_to_list e
 abbrev pub answered_together : Question → List WrittenId → ℕ
 answered_together (alone id) ids = 0
 answered_together (together all) ids = as_number (same_ids all ids)
-answered_together unread ids = 0
-answered_together unnamed ids = 0
+answered_together under_null [] = 0
+answered_together under_null (id ∷ ids) = 1
 
 abbrev pub answered_by : Question → Reading → ℕ
 answered_by question Foreign = 0
@@ -146,7 +139,7 @@ answered_by question NotText = 0
 answered_by question NotJson = 0
 answered_by question OverLimits = 0
 answered_by question HalfPair = 0
-answered_by question (Single entry) = if is_answer entry.kind then answered_under question (says_unread entry) entry.id else 0
+answered_by question (Single entry) = if is_answer entry.kind then answered_under question entry.id else 0
 answered_by question (Array entries) = answered_together question (ids_answered entries)
 
 -- ---- all contents of a stream

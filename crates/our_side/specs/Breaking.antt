@@ -1,8 +1,10 @@
 -- That none of what was found says of a side that it broke one of some rules.
-use Rattle.std.specs.Prelude.{◌≡◌, ◌&&◌, List, [], ◌∷◌, Bool, true, false, ⊤}
+use Rattle.std.specs.Prelude.{◌≡◌, ◌&&◌, not, List, [], ◌∷◌, Bool, true, false, ⊤}
 use Rattle.conversation_rules.specs.declared.finding.Finding.{Finding}
 use Rattle.conversation_rules.specs.declared.finding.Rule.{Rule}
 use Rattle.conversation_rules.specs.declared.finding.Rule.TheVariants as rules
+use Rattle.conversation_rules.specs.declared.level.Level.{Level}
+use Rattle.conversation_rules.specs.declared.level.Level.TheVariants.{Must, Should, Note}
 use Rattle.conversation_rules.specs.declared.side.Side.{Side}
 use Rattle.conversation_rules.specs.declared.side.Side.TheVariants.{Client, Server}
 
@@ -20,6 +22,19 @@ tells_of side those finding = same_side side finding.side && those finding.rule
 abbrev pub BreaksNone : Side → (Rule → Bool) → List Finding → Type 0
 BreaksNone side those [] = ⊤
 BreaksNone side those (finding ∷ findings) = (tells_of side those finding ≡ false) × BreaksNone side those findings
+
+-- A note is no accusation: what it tells of is allowed, or nobody can know who is wrong.
+abbrev pub is_note : Level → Bool
+is_note Must = false
+is_note Should = false
+is_note Note = true
+
+abbrev pub accuses : Side → (Rule → Bool) → Finding → Bool
+accuses side those finding = tells_of side those finding && not (is_note finding.level)
+
+abbrev pub AccusesNone : Side → (Rule → Bool) → List Finding → Type 0
+AccusesNone side those [] = ⊤
+AccusesNone side those (finding ∷ findings) = (accuses side those finding ≡ false) × AccusesNone side those findings
 
 -- ---- the rules that are a connection's (docs/judge.md, "The rules")
 

@@ -1,5 +1,5 @@
 -- A side of a conversation that is a connection of this library, whatever its host does.
-use Rattle.std.specs.Prelude.{◌≡◌, ◌≢◌, ◌≤◌, nat_lt, ℕ, List, [], ◌∷◌, ◌++◌, map, take, length, false, Some, ⊤}
+use Rattle.std.specs.Prelude.{◌≡◌, ◌≢◌, ◌⊎◌, ◌≤◌, nat_lt, ℕ, List, [], ◌∷◌, ◌++◌, map, take, length, true, false, Some, IsSomeAnd, ⊤}
 use Rattle.connection_history.specs.History.{Happening, History, units_of}
 use Rattle.connection_history.specs.declared.event.Event.{Event}
 use Rattle.connection.specs.BackToBack.{AllFit, AreFirst, IsEndedWhole}
@@ -62,12 +62,18 @@ pub record IsOurSide (protocol : Protocol) (framing : Framing) (limits : Limits)
   pub written : IsWritten protocol framing limits seen side connection history told n
   pub in_time : (before after : List Seen) → seen ≡ before ++ after → IsInTime protocol framing limits side connection history before
 
--- A connection with these settings answers each request of an array, and all in one array: the array has no more entries than
--- the connection takes, nor than the judge does, and no cancel of MCP takes an answer out.
-abbrev pub IsTakenWhole : Chosen → Reading → Type 0
-IsTakenWhole settings (Array (entry ∷ entries)) = (are_too_many settings.most_entries (length (entry ∷ entries)) ≡ false) × (settings.cancels ≢ Some Mcp) × (nat_lt MOST_ENTRIES_IN (length (entry ∷ entries)) ≡ false)
-IsTakenWhole settings _ = ⊤
+-- A connection with these settings refuses an array, since it has more entries than the connection takes. Or it answers each
+-- request of it, and all in one array: the array has no more entries than the judge takes, and no cancel of MCP takes an answer
+-- out.
+abbrev pub IsTaken : Chosen → Reading → Type 0
+IsTaken settings (Array (entry ∷ entries)) =
+    (are_too_many settings.most_entries (length (entry ∷ entries)) ≡ true) ⊎ ((settings.cancels ≢ Some Mcp) × (nat_lt MOST_ENTRIES_IN (length (entry ∷ entries)) ≡ false))
+IsTaken settings _ = ⊤
 
-abbrev pub AllTakenWhole : Chosen → List (ℕ × Frame) → Type 0
-AllTakenWhole settings [] = ⊤
-AllTakenWhole settings (placed ∷ contents) = IsTakenWhole settings (reading_of placed.1.foreign placed.1.content) × AllTakenWhole settings contents
+abbrev pub AllTaken : Chosen → List (ℕ × Frame) → Type 0
+AllTaken settings [] = ⊤
+AllTaken settings (placed ∷ contents) = IsTaken settings (reading_of placed.1.foreign placed.1.content) × AllTaken settings contents
+
+-- whatever comes
+abbrev pub TakesAll : Chosen → Type 0
+TakesAll settings = IsSomeAnd settings.most_entries (λ most. most ≤ MOST_ENTRIES_IN) × (settings.cancels ≢ Some Mcp)

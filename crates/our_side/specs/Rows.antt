@@ -1,4 +1,4 @@
--- Worked conversations of a connection that the judge accuses.
+-- Worked conversations of a connection that the judge tells of.
 use Rattle.std.specs.Prelude.{ℕ, List, [], ◌∷◌, false, Option, Some, None, codes}
 use Rattle.json.specs.Json.{Json, string}
 use Rattle.message_ids.specs.declared.id.Id.TheVariants.{Null, Text}
@@ -18,18 +18,6 @@ use Rattle.message_ids.specs.declared.standard.Standard.TheVariants.{ParseError}
 -- how a connection reads by these cancels, batches of so many entries
 abbrev pub reads : Option Cancels → Option ℕ → Rules
 reads cancels most = record { cancels = cancels; most_entries = most; null_params = false }
-
--- ---- a request whose id and params are null, which the host answers as if it couldn't be read, once what came behind it was
--- refused as invalid
-
-abbrev pub null_came : Entry
-null_came = Call (record { id = Some Null; method = codes "a"; params = None })
-
-abbrev pub parse_error : Answer
-parse_error = Standard ParseError
-
-abbrev pub answered_as_unreadable : History
-answered_as_unreadable = answered 1 (Some parse_error) ∷ came None (Single Invalid) ∷ came None (Single null_came) ∷ []
 
 -- ---- a batch of more entries than the connection takes
 

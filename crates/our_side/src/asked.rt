@@ -9,23 +9,23 @@ ghost use Rattle.conversation_rules.specs.declared.finding.Limits.{Limits};
 ghost use Rattle.conversation_rules.specs.declared.protocol.Protocol.{Protocol};
 ghost use Rattle.conversation_rules.specs.declared.side.Side.{Side};
 ghost use Rattle.our_side.specs.Asked.{Question, CanBeAsked, AllSay, asked_in, answered_in, judged};
-ghost use Rattle.our_side.specs.Breaking.{BreaksNone, is_of_answers};
+ghost use Rattle.our_side.specs.Breaking.{AccusesNone, is_of_answers};
 ghost use Rattle.our_side.specs.OurSide.{other, seen_of};
 
 use content_streams::places_stay;
 
 /// Whatever was seen of one side. What was seen of the other can be read, and its answers have ids that a connection
-/// could have; an array has no answers, or nothing else. By each moment it had answered nothing more often than it was
-/// asked: an id, by single answers; the ids of a batch, by arrays; what can't be read, by -32700 under the id null; and
-/// what stands alone and is expected to be answered under null, by another code. Then it is told neither as `not-owed`
-/// nor as `not-as-array`.
+/// could have; those that stand alone break no rule by themselves; an array has no answers, or nothing else. By each
+/// moment it had answered nothing more often than it was asked: an id, by single answers; the ids of a batch, by arrays;
+/// and all that may be answered under the id null, and batches, by single answers under null and by arrays together. Then
+/// it is accused neither of `not-owed` nor of `not-as-array`: if it is told as one of them, that is a note.
 pub fn who_answers_what_was_asked_is_not_accused()
     ensures { (protocol : Protocol) (framing : Framing) (limits : Limits) (seen : List Seen) (side : Side) →
         AllSay (placed_contents (seen_of protocol framing limits seen side)) →
         ((before after : List Seen) → seen ≡ before ++ after → (question : Question) → CanBeAsked question →
         answered_in question (judged (seen_of protocol framing limits before side))
         ≤ asked_in question (judged (seen_of protocol framing limits before (other side)))) →
-        BreaksNone side is_of_answers (findings_of protocol framing limits seen) }
+        AccusesNone side is_of_answers (findings_of protocol framing limits seen) }
 {
     places_stay();
 }

@@ -11,10 +11,7 @@ mod messages;
 mod met;
 mod once;
 
-pub use accused::{
-    a_batch_of_too_many_is_answered_once, a_null_call_that_is_answered_as_unreadable,
-    cancelled_requests_are_left_in_batches,
-};
+pub use accused::{a_batch_of_too_many_is_answered_once, cancelled_requests_are_left_in_batches};
 pub use asked::who_answers_what_was_asked_is_not_accused;
 pub use counted::{contents_answer, contents_ask};
 pub use expected::expected_answers_are_not_accused;
