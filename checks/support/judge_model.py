@@ -511,11 +511,15 @@ class Judge:
 
     def owed_to_parse_error(self, side: str, is_unsure: bool) -> Optional[tuple[Due, Optional[Owed]]]:
         """What a single -32700 under null is for: what stands in no batch, first what has to be answered, and last what
-        may be left, and was read where it has an id."""
-        unreadable = next((it for it in self.sides[side].dues if it.is_unreadable), None)
+        may be left, and was read where it has an id. Before what may be left comes what a reader may limit."""
+        dues = self.sides[side].dues
+        unreadable = next((it for it in dues if it.is_unreadable), None)
         if unreadable is not None:
             return unreadable, None
-        unnamed = self.first(side, (False, is_null_request), (False, is_unnamed))
+        asked = self.first(side, (False, is_null_request))
+        if asked is not None or (is_unsure and any(it.has_huge for it in dues)):
+            return asked
+        unnamed = self.first(side, (False, is_unnamed))
         return unnamed if unnamed is not None or is_unsure else self.first(side, (False, is_null_invalid))
 
     def first(self, side: str, *ways: tuple[bool, Callable[[Owed], bool]]) -> Optional[tuple[Due, Optional[Owed]]]:

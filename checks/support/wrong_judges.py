@@ -142,8 +142,8 @@ WRONGS = (
     Wrong(
         "-32700 is for nothing that is invalid",
         "judge_model",
-        "(False, is_null_request), (False, is_unnamed))",
-        "(False, is_null_request))",
+        "return unnamed if unnamed is not None or is_unsure else self.first(side, (False, is_null_invalid))",
+        "return None",
     ),
     Wrong(
         "-32700 is for what is invalid and has an id as well",
@@ -166,17 +166,21 @@ WRONGS = (
     Wrong(
         "-32700 is for what is invalid before a request",
         "judge_model",
-        "(False, is_null_request), (False, is_unnamed))",
-        "(False, is_unnamed), (False, is_null_request))",
+        "asked = self.first(side, (False, is_null_request))",
+        "asked = self.first(side, (False, is_unnamed), (False, is_null_request))",
     ),
     Wrong(
         "-32700 settles what a reader may limit",
         "judge_model",
-        "        unnamed = self.first(side, (False, is_null_request),",
-        "        huge = next((it for it in self.sides[side].dues if it.has_huge), None)\n"
-        "        if huge is not None:\n"
-        "            return huge, None\n"
-        "        unnamed = self.first(side, (False, is_null_request),",
+        "            return asked\n",
+        "            huge = next((it for it in dues if it.has_huge), None)\n"
+        "            return (huge, None) if asked is None and huge is not None else asked\n",
+    ),
+    Wrong(
+        "-32700 is for what may be left before what a reader may limit",
+        "judge_model",
+        "if asked is not None or (is_unsure and any(it.has_huge for it in dues)):",
+        "if asked is not None:",
     ),
     Wrong(
         "-32700 is for a member of a batch",
@@ -187,8 +191,8 @@ WRONGS = (
     Wrong(
         "-32700 is for what is invalid in a batch",
         "judge_model",
-        "(False, is_unnamed))",
-        "(False, is_unnamed), (True, is_unnamed))",
+        "unnamed = self.first(side, (False, is_unnamed))",
+        "unnamed = self.first(side, (False, is_unnamed), (True, is_unnamed))",
     ),
     Wrong(
         "an array has to be just what is expected",

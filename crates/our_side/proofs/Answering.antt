@@ -1,8 +1,8 @@
 -- A side that answers nothing more often than it was asked is accused of nothing.
 use Rattle.std.proofs.Common.{◌≡◌, ◌⊎◌, inl, inr, ◌==◌, ◌||◌, ◌&&◌, not, ℕ, zero, suc, ◌+◌, ◌-◌, ◌^◌, ◌≤◌, length, Bool, true, false, if◌then◌else◌, List, [], ◌∷◌, ◌++◌, map, position, Option, Some, None, option_map, refl, sym, ap, subst, ◌∙◌, arith, append-nil, append_assoc}
 use Rattle.std.proofs.lemmas.Bool.{eqb-true, eq-eqb}
-use Rattle.std.specs.Prelude.{⊤, slice_get, remove, option_and_then, count_by}
-use Rattle.std.specs.List.{list_all, filter_map}
+use Rattle.std.specs.Prelude.{slice_get, remove, option_and_then, count_by}
+use Rattle.std.specs.List.{list_all}
 use Rattle.std.specs.Option.{option_map_or, option_to_list, is_none}
 use Rattle.conversation_reading.specs.declared.entry.Entry.{Entry}
 use Rattle.conversation_reading.specs.First.{First}
@@ -15,8 +15,7 @@ use Rattle.conversation_reading.specs.declared.reading.Reading.TheVariants.{Fore
 use Rattle.conversation_rules.specs.Amounts.{same_id, is_null, is_odd, is_plain}
 use Rattle.conversation_rules.specs.Answers.{target_of_null, single_findings, behind_single, refused_behind_single, reply_of, answers_findings, answers_findings_of, behind_answers, behind_answers_of, batch_rest}
 use Rattle.conversation_rules.specs.Contents.{reading_outcome, sight_of, opened, shut, counted_array, have_huge, are_answers, replies_in, reply_ids, single_other, single_answer_findings, behind_entries}
-use Rattle.conversation_rules.specs.Dues as dues
-use Rattle.conversation_rules.specs.Dues.{closed, owed_more, settled, settled_entry, settled_batch, cancelled_in, ids_read, array_target, array_fits, found_batch}
+use Rattle.conversation_rules.specs.Dues.{closed, owed_more, settled_batch, cancelled_in, ids_read, array_target, array_fits, found_batch}
 use Rattle.conversation_rules.specs.Entries.{is_answer, is_well, may_lack_id, id_by, answer_id, is_cancel, cancelled_by, owed_after_last, is_first_cancel, owed_after_first, owed_after_cancel, behind_entry, id_findings}
 use Rattle.conversation_rules.specs.Matching.{same_ids, expected_ids, is_just, can_be_answered, batch_target, named_target, named_in, or_else, oldest, is_request_for}
 use Rattle.conversation_rules.specs.Owed.{Owed, Due, has_twice, first_id, request_owed, may_be_left, new_due, unreadable_due, has_id, has_null_params, is_expected, may_have, expected_without_params, owed_as, owed_on, empty_array_owed}
@@ -27,7 +26,6 @@ use Rattle.conversation_rules.specs.declared.finding.Message.{Message}
 use Rattle.conversation_rules.specs.declared.finding.Rule.{Rule}
 use Rattle.conversation_rules.specs.declared.finding.Rule.TheVariants as rules
 use Rattle.conversation_rules.specs.declared.found.Target.{Target}
-use Rattle.conversation_rules.specs.declared.found.Target.TheVariants.{EntryOf, WholeOf}
 use Rattle.conversation_rules.specs.declared.protocol.Protocol.{Protocol}
 use Rattle.conversation_rules.specs.declared.protocol.Protocol.TheVariants.{JsonRpc}
 use Rattle.conversation_rules.specs.declared.reply.Refusals.{Refusals}
@@ -39,7 +37,7 @@ use Rattle.our_side.specs.Breaking.{same_side, is_note, accuses, is_of_answers}
 use Rattle.our_side.specs.Expected.{NoneOf}
 use Rattle.our_side.proofs.Fair.{Silent, own_may, ids_each}
 use Rattle.our_side.proofs.Formed.{IsFormed, AreFormed, IsFormedReading}
-use Rattle.our_side.proofs.Ids.{same_itself, same_plain, named_plain, named_not_null, plain_named, only_null, not_named, same_as_other, same_list}
+use Rattle.our_side.proofs.Ids.{same_itself, same_plain, named_plain, named_not_null, plain_named, only_null, same_as_other, same_list}
 use Rattle.our_side.proofs.Matched.{array_none}
 use Rattle.our_side.proofs.Kept.{Mild, mild_none, Enough, Leaves, Asks, same_left, more_most, one_more_is}
 use Rattle.our_side.proofs.Open.{IsOfIds, open_on, open_in, AreOrderly, unreadable_more, unreadable_open, Ends, front_in, new_ends, new_front, new_length, map_length, more_length, ends_cancelled, front_cancelled, ends_more, front_more, closed_orderly, closed_open, closed_shut, nothing_alone, nothing_together, open_ends, ends_orderly, LastNew, LastOne, LastBatch, first_one, more_batch, new_cancelled, batch_cancelled, new_orderly, one_orderly, batch_orderly, new_open, one_open, batch_open, fitting, takes, none_oldest, alone_fits, TakesWhole, takes_whole, together_wholes}

@@ -1,17 +1,17 @@
 -- What came asks a connection nothing more often than it asks by the judge.
-use Rattle.std.proofs.Common.{◌≡◌, ◌⊎◌, inl, inr, ◌||◌, nat_lt, ℕ, zero, suc, ◌+◌, ◌≤◌, Bool, true, false, if◌then◌else◌, List, [], ◌∷◌, map, take, length, Option, Some, None, refl, sym, ap, subst, ◌∙◌, arith}
+use Rattle.std.proofs.Common.{◌≡◌, inl, inr, ◌||◌, nat_lt, ℕ, zero, suc, ◌+◌, ◌≤◌, Bool, true, false, if◌then◌else◌, List, [], ◌∷◌, map, take, length, Option, Some, None, refl, sym, ap, subst, ◌∙◌, arith}
 use Rattle.std.specs.Prelude.{⊤}
 use Rattle.std.specs.Option.{option_to_list}
 use Rattle.std.specs.Str.{is_utf8}
 use Rattle.json.specs.Json as json
-use Rattle.json.specs.Json.{Json, array, object, no_items, item, value, if_last}
+use Rattle.json.specs.Json.{Json, array, object, no_items, item}
 use Rattle.json.specs.Tree.{HasNumbers, ItemsHaveNumbers}
 use Rattle.json_texts.specs.Texts.{value_of, text_value}
 use Rattle.lsp_frames.specs.declared.frame.Frame.{Frame}
 use Rattle.connection.specs.Connections.{read}
 use Rattle.connection.specs.Settings.{Chosen, rules_of}
 use Rattle.connection_messages.specs.Reading as lenient
-use Rattle.connection_messages.specs.Reading.{are_too_many, batch_of, batch_within, unit_of_reading, unit_of}
+use Rattle.connection_messages.specs.Reading.{are_too_many, batch_within, unit_of_reading, unit_of}
 use Rattle.connection_messages.specs.declared.answer.Answer.{Answer as Given}
 use Rattle.connection_messages.specs.declared.entry.Entry.{Entry as Read}
 use Rattle.connection_messages.specs.declared.entry.Entry.TheVariants.{Call, Cancel, Reply, Stray, Invalid as Nothing}

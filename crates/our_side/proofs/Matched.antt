@@ -11,7 +11,7 @@ use Rattle.conversation_reading.specs.declared.entry.WrittenId.TheVariants.{Null
 use Rattle.conversation_rules.specs.Amounts.{is_null}
 use Rattle.conversation_rules.specs.Answers.{fit_findings, has_code, single_findings_of, rest_of, is_unsure, target_of, single_findings, cancelled_code_level, or_note, array_findings, taken_findings, answers_findings_of, batch_rest, answers_findings}
 use Rattle.conversation_rules.specs.Dues as dues
-use Rattle.conversation_rules.specs.Dues.{ids_read, array_target, array_fits, found_batch, fit_of, fit_in}
+use Rattle.conversation_rules.specs.Dues.{ids_read, array_target, array_fits, found_batch, fit_of}
 use Rattle.conversation_rules.specs.Matching.{place_in, later, oldest, or_else, is_request_for, named_in, named_target, is_null_request, is_null_other, is_unnamed, expects_null_in, null_in, null_target, parse_error_target, is_just, can_be_answered, batch_target}
 use Rattle.conversation_rules.specs.Owed.{Owed, Due, is_expected, may_have}
 use Rattle.conversation_rules.specs.Protocols.{is_mcp}

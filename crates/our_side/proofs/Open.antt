@@ -9,7 +9,7 @@ use Rattle.conversation_reading.specs.declared.entry.WrittenId.{WrittenId}
 use Rattle.conversation_rules.specs.Dues as dues
 use Rattle.conversation_rules.specs.Dues.{owed_more, is_open, closed, cancelled, cancelled_in, with_entries, settled_entry, fit_of}
 use Rattle.conversation_rules.specs.Amounts.{is_null}
-use Rattle.conversation_rules.specs.Matching.{place_in, later, oldest, is_request_for, expects_null, is_null_request, is_null_other, is_unnamed, is_just, expected_ids}
+use Rattle.conversation_rules.specs.Matching.{place_in, later, oldest, is_request_for, expects_null, is_null_request, is_null_other, is_just, expected_ids}
 use Rattle.conversation_rules.specs.Owed.{Owed, Due, unreadable_due, is_expected}
 use Rattle.conversation_rules.specs.declared.found.Fit.{Fit}
 use Rattle.conversation_rules.specs.declared.found.Found.TheVariants.{Entry as EntryFit}
@@ -520,28 +520,6 @@ parts_of false false = refl
 matching_parts : (entries : List Owed) → matching expects_null entries ≡ matching is_null_request entries + matching is_null_other entries
 matching_parts [] = refl
 matching_parts (x ∷ entries) = let first = parts_of x.is_request (expects_null x) in let rest = matching_parts entries in omega (arith, first, rest)
-
--- one that has an id, or none
-
-others_of : (other own : Bool) → as_number other ≡ as_number (other && own) + as_number (other && not own)
-others_of true true = refl
-others_of true false = refl
-others_of false own = refl
-
-abbrev pub is_named_other : Owed → Bool
-is_named_other x = is_null_other x && not (option_map_or is_null x.own true)
-
-matching_others : (entries : List Owed) → matching is_null_other entries ≡ matching is_unnamed entries + matching is_named_other entries
-matching_others [] = refl
-matching_others (x ∷ entries) = let first = others_of (is_null_other x) (option_map_or is_null x.own true) in let rest = matching_others entries in omega (arith, first, rest)
-
-others_by : (batch : Bool) (entries : List Owed) → (if batch then 0 else matching is_null_other entries) ≡ (if batch then 0 else matching is_unnamed entries) + (if batch then 0 else matching is_named_other entries)
-others_by true entries = refl
-others_by false entries = matching_others entries
-
-pub other_parts : (owed : List Due) → fitting is_null_other owed ≡ fitting is_unnamed owed + fitting is_named_other owed
-other_parts [] = refl
-other_parts (due ∷ owed) = let first = others_by due.is_batch due.entries in let rest = other_parts owed in omega (arith, first, rest)
 
 fitting_by : (batch : Bool) (entries : List Owed) → (if batch then 0 else matching expects_null entries) ≡ (if batch then 0 else matching is_null_request entries) + (if batch then 0 else matching is_null_other entries)
 fitting_by true entries = refl

@@ -1,5 +1,5 @@
 -- A single answer under null settles what expects it, or counts for what may be refused whole, or for what can't be read.
-use Rattle.std.proofs.Common.{◌≡◌, ◌⊎◌, inl, inr, ◌==◌, ◌||◌, ◌&&◌, not, ℕ, zero, suc, ◌+◌, ◌-◌, ◌^◌, ◌≤◌, ◌<◌, nat_lt, Bool, true, false, if◌then◌else◌, List, [], ◌∷◌, ◌++◌, length, position, Option, Some, None, option_map, refl, sym, ap, subst, ◌∙◌, arith}
+use Rattle.std.proofs.Common.{◌≡◌, ◌⊎◌, inl, inr, ◌==◌, ◌||◌, ◌&&◌, not, ℕ, zero, suc, ◌+◌, ◌-◌, ◌^◌, ◌≤◌, ◌<◌, nat_lt, Bool, true, false, if◌then◌else◌, List, [], ◌∷◌, ◌++◌, length, Option, Some, None, option_map, refl, sym, ap, subst, ◌∙◌, arith}
 use Rattle.std.proofs.lemmas.Bool.{eqb-true, lt-ltb}
 use Rattle.std.specs.Prelude.{is_some, remove}
 use Rattle.std.specs.List.{list_any, filter_map}
@@ -7,7 +7,7 @@ use Rattle.std.specs.Option.{option_map_or, option_to_list}
 use Rattle.conversation_reading.specs.declared.entry.WrittenId.{WrittenId}
 use Rattle.conversation_reading.specs.declared.entry.WrittenId.TheVariants.{Null}
 use Rattle.conversation_rules.specs.Amounts.{is_null}
-use Rattle.conversation_rules.specs.Answers.{has_code, refuses_open, refuses, one_refused, refused_by, is_unsure, target_of, target_of_null, rest_of, single_findings, single_findings_of, unfit_findings, behind_unfit, behind_found, refused_behind, behind_single, refused_behind_single, stray_of, not_owed_level, not_owed, each_not_owed, are_told, not_owed_findings, behind_not_owed}
+use Rattle.conversation_rules.specs.Answers.{has_code, refuses_open, refuses, one_refused, refused_by, is_unsure, target_of, target_of_null, rest_of, single_findings, single_findings_of, unfit_findings, behind_unfit, behind_found, refused_behind, behind_single, refused_behind_single, stray_of, not_owed_level, each_not_owed, are_told, not_owed_findings, behind_not_owed}
 use Rattle.conversation_rules.specs.Dues as dues
 use Rattle.conversation_rules.specs.Dues.{may_be_refused, settled, settled_entry, unreadable_target}
 use Rattle.conversation_rules.specs.Matching.{expects_null, is_null_request, is_null_other, is_unnamed, expects_null_in, null_in, null_target, parse_error_target, named_target, or_else, oldest}
@@ -17,18 +17,16 @@ use Rattle.conversation_rules.specs.declared.finding.Message.{Message}
 use Rattle.conversation_rules.specs.declared.finding.Rule.TheVariants as rules
 use Rattle.conversation_rules.specs.declared.found.Target.{Target}
 use Rattle.conversation_rules.specs.declared.found.Target.TheVariants.{EntryOf, WholeOf}
-use Rattle.conversation_rules.specs.declared.level.Level.{Level}
 use Rattle.conversation_rules.specs.declared.level.Level.TheVariants.{Note}
 use Rattle.conversation_rules.specs.declared.protocol.Protocol.{Protocol}
 use Rattle.conversation_rules.specs.declared.reply.Refusals.{Refusals}
 use Rattle.conversation_rules.specs.declared.reply.Reply.{Reply}
 use Rattle.conversation_rules.specs.declared.reply.Sight.{Sight}
-use Rattle.conversation_rules.specs.declared.reply.Stray.{Stray}
 use Rattle.our_side.specs.Asked.{Question, alone, together, under_null, CanBeAsked, as_number, asked_from, answered_under}
 use Rattle.our_side.proofs.Ids.{not_named}
 use Rattle.our_side.proofs.Kept.{Mild, mild_none, Enough, Leaves, same_left, less_most, one_less_is}
 use Rattle.our_side.proofs.Matched.{IsOldest, single_none}
-use Rattle.our_side.proofs.Open.{open_on, open_in, AreOrderly, fitting, Takes, takes, none_oldest, null_parts, other_parts, is_named_other, wholes, under_null_is, under_null_most, any_whole, none_whole, TakesWhole, takes_whole}
+use Rattle.our_side.proofs.Open.{open_on, open_in, AreOrderly, fitting, Takes, takes, none_oldest, null_parts, wholes, under_null_is, under_null_most, any_whole, none_whole, TakesWhole, takes_whole}
 use Rattle.our_side.proofs.Walking.{Each}
 
 never : {A : Type 0} (b : Bool) → b ≡ true → b ≡ false → A

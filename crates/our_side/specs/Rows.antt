@@ -1,9 +1,9 @@
 -- Worked conversations of a connection that the judge tells of.
 use Rattle.std.specs.Prelude.{ℕ, List, [], ◌∷◌, false, Option, Some, None, codes}
 use Rattle.json.specs.Json.{Json, string}
-use Rattle.message_ids.specs.declared.id.Id.TheVariants.{Null, Text}
+use Rattle.message_ids.specs.declared.id.Id.TheVariants.{Text}
 use Rattle.connection_messages.specs.declared.answer.Answer.{Answer}
-use Rattle.connection_messages.specs.declared.answer.Answer.TheVariants.{Result, Standard}
+use Rattle.connection_messages.specs.declared.answer.Answer.TheVariants.{Result}
 use Rattle.connection_messages.specs.declared.cancels.Cancels.{Cancels}
 use Rattle.connection_messages.specs.declared.entry.Entry.{Entry}
 use Rattle.connection_messages.specs.declared.entry.Entry.TheVariants.{Call, Cancel, Invalid}
@@ -13,7 +13,6 @@ use Rattle.connection_messages.specs.declared.unit.Unit.TheVariants.{Single, Bat
 use Rattle.connection_history.specs.History.{came, answered, History}
 use Rattle.conversation_reading.specs.Rows.{message, method, outcome}
 use Rattle.conversation_rules.specs.Rows.{array_of, mcp_cancel}
-use Rattle.message_ids.specs.declared.standard.Standard.TheVariants.{ParseError}
 
 -- how a connection reads by these cancels, batches of so many entries
 abbrev pub reads : Option Cancels → Option ℕ → Rules
