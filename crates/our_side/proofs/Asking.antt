@@ -143,17 +143,14 @@ module _ (settings : Chosen) where
       let refused : are_too_many settings.most_entries (length es) ≡ true = ap (are_too_many settings.most_entries) (as_many rules (item j js)) ∙ many in
       subst (λ b. ReadAs settings (Array (strict.entries_of (item j js))) (if b then units.Single Nothing else units.Batch es)) (sym refused)
       (record { few = λ q can. refused_few q can true false refl (ids_expected (strict.entries_of (item j js))); whole = tt })
-  array_read (item j js) numbers (inr taken) = by_count (are_too_many rules.most_entries (length es)) refl
+  array_read (item j js) numbers (inr taken) = by_count (are_too_many rules.most_entries (length (lenient.entries_of rules (item j js)))) refl
     where
-      es : List Read
-      es = lenient.entries_of rules (item j js)
-
-      by_count : (b : Bool) → are_too_many rules.most_entries (length es) ≡ b → ReadAs settings (Array (strict.entries_of (item j js))) (if b then units.Single Nothing else units.Batch es)
+      by_count : (b : Bool) → are_too_many rules.most_entries (length (lenient.entries_of rules (item j js))) ≡ b → ReadAs settings (Array (strict.entries_of (item j js))) (if b then units.Single Nothing else units.Batch (lenient.entries_of rules (item j js)))
       by_count true many = record { few = λ q can. refused_few q can true false refl (ids_expected (strict.entries_of (item j js))); whole = tt }
       by_count false few = record {
         few = λ q can.
-            let most = batch_few q es in
-            let same : asked_by q (Array (strict.entries_of (item j js))) ≡ asked_from q true false (map written_as (ids_due es)) = ap (asked_from q true false) (items_tied rules (item j js) numbers) in
+            let most = batch_few q (lenient.entries_of rules (item j js)) in
+            let same : asked_by q (Array (strict.entries_of (item j js))) ≡ asked_from q true false (map written_as (ids_due (lenient.entries_of rules (item j js)))) = ap (asked_from q true false) (items_tied rules (item j js) numbers) in
             omega (arith, most, same);
         whole = (taken.0, tt);
       }
@@ -163,16 +160,13 @@ module _ (settings : Chosen) where
   array_limited no_items numbers taken = array_read no_items numbers taken
   array_limited (item j js) numbers taken = by_limit (nat_lt MOST_ENTRIES_IN (length (strict.entries_of (item j js)))) refl taken
     where
-      es : List Read
-      es = lenient.entries_of rules (item j js)
-
-      over : are_too_many settings.most_entries (length (strict.entries_of (item j js))) ≡ true → ReadAs settings OverLimits (batch_within rules.most_entries es)
+      over : are_too_many settings.most_entries (length (strict.entries_of (item j js))) ≡ true → ReadAs settings OverLimits (batch_within rules.most_entries (lenient.entries_of rules (item j js)))
       over many =
-          subst (λ b. ReadAs settings OverLimits (if b then units.Single Nothing else units.Batch es)) (sym (ap (are_too_many settings.most_entries) (as_many rules (item j js)) ∙ many))
+          subst (λ b. ReadAs settings OverLimits (if b then units.Single Nothing else units.Batch (lenient.entries_of rules (item j js)))) (sym (ap (are_too_many settings.most_entries) (as_many rules (item j js)) ∙ many))
           (record { few = λ q can. refused_few q can false true refl []; whole = tt })
 
       by_limit : (b : Bool) → nat_lt MOST_ENTRIES_IN (length (strict.entries_of (item j js))) ≡ b → IsTaken settings (Array (strict.entries_of (item j js)))
-          → ReadAs settings (if b then OverLimits else Array (strict.entries_of (item j js))) (batch_within rules.most_entries es)
+          → ReadAs settings (if b then OverLimits else Array (strict.entries_of (item j js))) (batch_within rules.most_entries (lenient.entries_of rules (item j js)))
       by_limit false is taken = array_read (item j js) numbers taken
       by_limit true is (inl many) = over many
       by_limit true is (inr within) = absurd (let no : true ≡ false = sym is ∙ within.1 in cc)
