@@ -1,12 +1,12 @@
 //! A content: what it breaks, and what is kept of it.
 
-ghost use Rattle.std.specs.Prelude.{◌≡◌, ◌++◌, ℕ, length, Some, OnOk, IfOk};
+ghost use Rattle.std.specs.Prelude.{◌≡◌, ◌++◌, ℕ, length, Some, OnOk, IfOk, true};
 ghost use Rattle.content_streams.specs.Streams.{capped};
 ghost use Rattle.conversation_entries.specs.Said.{said};
 ghost use Rattle.conversation_judge.specs.Said.{pair};
 ghost use Rattle.conversation_reading.specs.declared.entry.WrittenId.TheVariants.{Null};
 ghost use Rattle.conversation_rules.specs.Contents as rules;
-ghost use Rattle.conversation_rules.specs.Contents.{sight_of, not_json_rule, unreadable, single_outcome, empty_outcome, batch_findings, entries_findings, behind_entries, counted_array, replies_in, reply_ids, array_outcome, behind_line_end, reading_outcome, content_outcome};
+ghost use Rattle.conversation_rules.specs.Contents.{sight_of, opened, shut, not_json_rule, unreadable, single_outcome, empty_outcome, batch_findings, entries_findings, behind_entries, counted_array, replies_in, reply_ids, array_outcome, behind_line_end, reading_outcome, content_outcome};
 ghost use Rattle.conversation_rules.specs.Entries.{answer_id};
 ghost use Rattle.conversation_rules.specs.Protocols as protocols;
 ghost use Rattle.conversation_rules.specs.Speakers.{Speaker as SpeakerValue};
@@ -255,6 +255,29 @@ fn count_array(own: &mut Speaker, before: u64)
     }
 }
 
+/// What is kept of an array with entries, and what they break by themselves.
+fn take_batch(
+    protocol: Protocol,
+    findings: &mut Vec<Finding>,
+    message: Message,
+    own: &mut Speaker,
+    has_huge: bool,
+    entries: Vec<Entry>,
+) -> Result<(), AllocError>
+    ensures findings { OnOk result (findings.new.items ≡ findings.old.items
+        ++ entries_findings protocol message 1 entries.items (opened message true has_huge (said own.old))) }
+    ensures own { OnOk result (said own.new
+        ≡ counted_array (said own.old) (shut (behind_entries protocol 1 entries.items (opened message true has_huge (said own.old))))) }
+{
+    let before = own.owed.len();
+    own.owed
+        .open(message.number, message.offset, true, has_huge)?;
+    take_entries(protocol, findings, message, own, entries)?;
+    own.owed.close();
+    count_array(own, before);
+    Ok(())
+}
+
 /// A content that is an array with entries.
 fn take_array(
     alloc: Global,
@@ -276,12 +299,14 @@ fn take_array(
     let ids = ids_of(alloc, entries.as_slice())?;
     put_batch(protocol, findings, message, entries.as_slice())?;
     let has_huge = have_huge(entries.as_slice());
-    let before = own.owed.len();
-    own.owed
-        .open(message.number, message.offset, true, has_huge)?;
-    take_entries(protocol, findings, message, own, entries.into_vec())?;
-    own.owed.close();
-    count_array(own, before);
+    take_batch(
+        protocol,
+        findings,
+        message,
+        own,
+        has_huge,
+        entries.into_vec(),
+    )?;
     let owed = &mut other.owed;
     put_answers(
         alloc,
