@@ -9,7 +9,7 @@ use Rattle.conversation_reading.specs.Wholes.{size_of, whole_with, if_64_bits, w
 use Rattle.conversation_reading.specs.declared.entry.WrittenId.{WrittenId}
 use Rattle.conversation_reading.specs.declared.entry.WrittenId.TheVariants.{Number}
 use Rattle.conversation_rules.specs.Amounts.{same_amount, same_id}
-use Rattle.conversation_rules.specs.Answers.{Each as Taken, stray_of, are_told, behind_not_owed, refuses, behind_unfit, behind_found, rest_of, target_of, behind_single, target_in_array, with_found, with_reply, each_of, behind_strays, new_each, none_fits, batch_rest, behind_answers_of, behind_answers}
+use Rattle.conversation_rules.specs.Answers.{Each as Taken, stray_of, are_told, behind_not_owed, refuses, behind_found, rest_of, target_of, behind_single, target_in_array, with_found, with_reply, each_of, behind_strays, new_each, none_fits, batch_rest, behind_answers_of, behind_answers}
 use Rattle.conversation_rules.specs.Dues as dues
 use Rattle.conversation_rules.specs.Dues.{owed_more, is_open, closed, any_owed, is_asked, cancelled, cancelled_in, with_entries, settled_entry, settled, unreadable_target, array_target, settled_batch, found_batch}
 use Rattle.conversation_rules.specs.Matching.{is_request_for}

@@ -1,5 +1,5 @@
 -- The decimal digits of a number are a plain whole number of that size, and behind a minus one below 0.
-use Rattle.std.proofs.Common.{◌≡◌, ◌==◌, ◌&&◌, not, ℕ, suc, ◌+◌, ◌*◌, ◌<◌, ◌≤◌, ◌^◌, nat_le, true, false, List, [], ◌∷◌, Some, None, option_map, length, refl, sym, ap, ◌∙◌, arith, decimal, position, append-nil, if◌then◌else◌}
+use Rattle.std.proofs.Common.{◌≡◌, ◌==◌, ◌&&◌, not, ℕ, suc, ◌+◌, ◌*◌, ◌<◌, ◌≤◌, ◌^◌, nat_le, true, false, List, [], ◌∷◌, None, length, refl, sym, ap, ◌∙◌, arith, decimal, position, append-nil, if◌then◌else◌}
 use Rattle.std.proofs.lemmas.Bool.{lt-ltb, false_from_ne_true}
 use Rattle.std.proofs.lemmas.Bool.Decides.{nat_tests}
 use Rattle.std.proofs.lemmas.Slice.Eq.{bytes_eq-Decides}
@@ -11,7 +11,7 @@ use Rattle.std.specs.Prelude.{codes}
 use Rattle.std.specs.Str.{bytes_eq}
 use Rattle.std.specs.Str.Parse.{AllDigits, digits_value_after, starts_with_minus}
 use Rattle.conversation_reading.specs.Numbers.{parts_at, is_mark, is_point, is_whole, number_after, number_of, without_minus, digit_of}
-use Rattle.conversation_reading.specs.Wholes.{size_of, size_of_parts, size_with, whole_with, if_64_bits, whole_of}
+use Rattle.conversation_reading.specs.Wholes.{size_of, size_of_parts, size_with}
 use Rattle.conversation_rules.specs.Amounts.{amount_of, amount_in, amount_with, fits_64_bits, is_plain}
 use Rattle.judge_laws.proofs.Failures.{none_among, passed_by, not_this, no_mark, no_point, whole_by}
 
@@ -132,20 +132,3 @@ module _ (n : ℕ) (small : n < 2 ^ 63) where
       ∙ ap (λ b. not b && fits_64_bits (amount_of minus_text)) other_than_zero
       ∙ ap fits_64_bits below_amount
       ∙ at_most_true (suc n) (2 ^ 63) (omega (arith, small))
-
-  below_whole : is_whole minus_text ≡ true
-  below_whole = whole_by minus_text below_marks below_points
-
-  some : (suc n == 0) ≡ false
-  some = grind (arith, nat_tests)
-
-  below_size : size_of minus_text ≡ suc n
-  below_size = ap (λ o. size_of_parts (parts_at minus_text o)) below_marks ∙ ap (λ o. size_with (parts_at minus_text o) []) below_points ∙ number_of-decimal (suc n) few
-
-  -- as the code of an error
-  pub below_code : whole_of minus_text ≡ Some (record { minus = true; size = suc n })
-  below_code =
-      ap (λ b. if b then option_map (whole_with true) (if_64_bits (size_of minus_text)) else None) below_whole
-      ∙ ap (λ k. option_map (whole_with true) (if_64_bits k)) below_size
-      ∙ ap (λ b. option_map (whole_with true) (if b then Some (suc n) else None)) (lt-ltb (suc n) (2 ^ 64) few)
-      ∙ ap (λ b. Some (record { minus = not b; size = suc n })) some
