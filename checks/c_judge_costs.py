@@ -19,7 +19,7 @@ from support.c_programs import C99, SUPPORT, build, default_library, is_whole
 from support.callgrind import instructions
 
 COUNT, MOST_GROWTH = 10_000, 2.2
-# A request and its answer before the judge take so many times what a connection takes for them: a twelfth more than was
+# A request and its answer before the judge take so many times what a connection takes for them: a fortieth more than was
 # measured (docs/performance.md).
 MOST_TIMES = 3.22
 FEWEST_HELD, FEW_HELD, MANY_HELD = 1_000, 100_000, 200_000

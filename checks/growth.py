@@ -2,8 +2,9 @@
 does what `judge` is shown: contents that can be read and that can't, long ids, ids that are used again and that are held
 open. Three conversations are known to take the judge the square of their size; this is seen. And no memory is asked for
 what is only promised: a head that says 16 MiB, with nothing behind it, makes no large request. Nor is any kept for what
-is over: a million runs of a method take as much as a thousand, and a server that rests holds the same bytes, to the
-kilobyte, behind the second and the third content, line or response of 16 MB, long batch or piece of many lines. Behind
+is over: a million runs of a method take as much as a thousand, ten thousand batches and cancels that the judge saw and
+that are answered hold what a thousand hold, and a server that rests holds the same bytes, to the kilobyte, behind the
+second and the third content, line or response of 16 MB, long batch or piece of many lines. Behind
 100,000 open calls, and as many notifications that run on once their batch is answered, it is known to hold more: the sets
 of numbers keep their room. At rest it has little room for what may come, and an entry of a batch takes what it needs. A
 long content is read once if its method comes first, and without its params if the table lacks it.
@@ -13,6 +14,7 @@ own beginning, is left out. Why by instructions: docs/decisions/tests_and_releas
 import os
 import tempfile
 from functools import partial
+from itertools import chain
 
 from support import c_programs, ran
 from support import refusals
@@ -114,13 +116,20 @@ def answers(id_):
     return "<", '{"jsonrpc":"2.0","id":%s,"result":1}' % id_
 
 
+def left(id_):
+    """A cancel by MCP's rules, behind which a request may be left."""
+    return ">", '{"jsonrpc":"2.0","method":"notifications/cancelled","params":{"requestId":%s}}' % id_
+
+
 def array_of(side, ids, form):
     return side, rows.batch(*(form(it)[1] for it in ids))
 
 
-def shown(*lines):
+def shown(*lines, rules="lsp"):
     """A recording of these lines."""
-    return "".join(["judge 1 lsp lines\n", *(f"{side} {rows.lines(text).hex()}\n" for side, text in lines)]).encode()
+    return "".join(
+        [f"judge 1 {rules} lines\n", *(f"{side} {rows.lines(text).hex()}\n" for side, text in lines)]
+    ).encode()
 
 
 def said_with(text):
@@ -156,20 +165,47 @@ JUDGED = [
         lambda size: shown((">", rows.batch(*["1"] * size)), array_of("<", ["null"] * size, answers)),
         800,
     ),
+    ("cancels of equal ids", lambda size: shown(*[asks(1)] * size, *[(">", rows.cancel(1))] * size), 1_000),
+    (
+        "arrays that fit no batch",
+        lambda size: shown(*[array_of(">", (1, 2), asks)] * size, *[array_of("<", (3, 1), answers)] * size),
+        600,
+    ),
 ]
-# Known to take the square of the size: each single answer is tried on what is left of a batch, each cancel on all that has
-# its id, and each answer of an array that fits no batch on all batches that have its id.
+# Known to take the square of the size: each single answer is tried on what is left of a batch, and each cancel by MCP's
+# rules on all that has its id. Of equal ids the first one fits, and what is behind it is moved, which shows at this size.
 SQUARES = [
     (
         "a batch of equal ids, answered one by one",
         lambda size: shown(array_of(">", [1] * size, asks), *[answers(1)] * size),
-        600,
+        4_000,
     ),
-    ("cancels of equal ids", lambda size: shown(*[asks(1)] * size, *[(">", rows.cancel(1))] * size), 150),
+    ("a batch, answered one by one", lambda size: shown(array_of(">", to(size), asks), *map(answers, to(size))), 300),
     (
-        "arrays that fit no batch",
-        lambda size: shown(*[array_of(">", (1, 2), asks)] * size, *[array_of("<", (3, 1), answers)] * size),
+        "cancels of equal ids, by MCP's rules",
+        lambda size: shown(*[asks(1)] * size, *[left(1)] * size, rules="mcp"),
         150,
+    ),
+]
+
+# What passes before the judge: its name, the rules, and what is said by a number.
+PASSING = [
+    ("batches", "jsonrpc", lambda it: (array_of(">", (it, -it), asks), array_of("<", (-it, it), answers))),
+    (
+        "batches that are answered one by one",
+        "jsonrpc",
+        lambda it: (array_of(">", (it, -it), asks), answers(it), answers(-it)),
+    ),
+    ("cancels", "lsp", lambda it: (asks(it), (">", rows.cancel(it)), answers(it))),
+    (
+        "batches with a cancel",
+        "lsp",
+        lambda it: (array_of(">", (it, -it), asks), (">", rows.cancel(it)), array_of("<", (-it, it), answers)),
+    ),
+    (
+        "batches of which a request is left",
+        "mcp:2025-03-26",
+        lambda it: (array_of(">", (it, -it), asks), left(it), array_of("<", (-it,), answers)),
     ),
 ]
 
@@ -339,6 +375,7 @@ def check_memory(count):
         check_open(count)
         check_at_rest(count)
         check_batches(count)
+        check_passing(count)
         check_reads(count)
 
 
@@ -502,6 +539,19 @@ def check_batches(count):
         print(f"an entry of a batch {name}: {each:,.1f} bytes", flush=True)
         well = (status, then) == (0, 0) and 0 < each <= reached
         count.check(f"an entry of a batch {name} takes what it needs", well, f"{each:,.1f}, at most {reached:,.1f}")
+
+
+def check_passing(count):
+    """Nothing is kept of what was answered before the judge, in whatever way it was."""
+    for name, rules, said in PASSING:
+        held = [judged_bytes(shown(*chain.from_iterable(map(said, to(it))), rules=rules)) for it in (1_000, 10_000)]
+        print(f"judged: {name}: {held[0]:,} bytes held of 1,000, {held[1]:,} of 10,000", flush=True)
+        count.same(f"judged: nothing is kept of {name}", held[1], held[0])
+
+
+def judged_bytes(recording):
+    """The most bytes that are held."""
+    return refusals.counted([ran.BUILT, "judge"], recording)[1]
 
 
 def check_reads(count):

@@ -2,10 +2,10 @@
 
 The plain model of the judge (docs/judge.md) over conversations that are made at random. A connection of this library
 before a hurt peer, two of them joined back to back, and a side that answers as one does break no rule that is marked as
-a connection's, whatever its host does, by each set of rules, except for notes that it may have refused a content whole;
-and what is found is the same where the bytes come in other pieces. Conversations that break nothing have no finding;
-with one break of a rule planted in them just this is found, at its message. A wrong accusation is made as small as it
-goes and shown."""
+a connection's, whatever its host does: by each set of rules, and where it has MCP's cancels by those of MCP. Notes of
+what it owes don't count. And what is found is the same where the bytes come in other pieces. Conversations that break
+nothing have no finding; with one break of a rule planted in them just this is found, at its message. A wrong accusation
+is made as small as it goes and shown."""
 import argparse
 import os
 import random
@@ -18,27 +18,32 @@ from typing import Any, Callable, Optional
 from support import judge_conversations as conversations
 from support import judge_planted as plants
 from support import ran
-from support.judge_answering import answering
+from support.judge_answering import answering, leaving
 from support.judge_conversations import Conversation, found_in
 from support.judge_rules import CONNECTION, HOST, RULES
 
 CASES = 600
 BATCH = 25
-# Of a thousand conversations with a peer so many findings at least are the peer's, so that a run that finds nothing fails.
-# (the rules jsonrpc are counted alone)
+# Of a thousand conversations of a kind so many findings at least are the peer's, so that a run that finds nothing fails; and
+# in so many it has to be guessed for which batch an array is. (the rules jsonrpc are counted alone, and mcp for guesses)
+GUESSED = "with a guess"
 FLOORS = {
-    "head": 10,
-    "not-json": 100,
-    "charset": 10,
-    "object": 40,
-    "version": 150,
-    "method": 10,
-    "params": 10,
-    "outcome": 100,
-    "empty-array": 80,
-    "not-owed": 500,
-    "not-as-array": 40,
-    "unanswered": 100,
+    "with a peer": {
+        "head": 10,
+        "not-json": 100,
+        "charset": 10,
+        "object": 40,
+        "version": 150,
+        "method": 10,
+        "params": 10,
+        "outcome": 100,
+        "empty-array": 80,
+        "not-owed": 500,
+        "not-as-array": 40,
+        "unanswered": 100,
+        GUESSED: 20,
+    },
+    "leaving": {GUESSED: 150},
 }
 
 
@@ -55,6 +60,7 @@ KINDS: dict[str, Callable[[str], Conversation]] = {
     "with a peer": conversations.with_a_peer,
     "joined": conversations.joined,
     "answering": answering,
+    "leaving": leaving,
 }
 
 
@@ -65,13 +71,16 @@ def tried(kind: str, seed: int, numbers: range) -> tuple[list[str], Counter[str]
         conversation = KINDS[kind](f"{kind} seed-{seed}-{number}")
         other = conversations.cut_otherwise(random.Random(conversation.name), conversation)
         for rules in RULES:
-            found = found_in(conversation, rules)
+            judge = conversations.judged(conversation, rules)
+            found = judge.findings
             if found != found_in(other, rules):
                 faults.append(f"{conversation.name}, {rules}: other findings where it is cut otherwise")
-            if conversations.accused(conversation, found, CONNECTION):
+            if rules in conversation.rules and conversations.accused(conversation, found, CONNECTION):
                 faults.append(f"{conversation.name}, {rules}: {accusation(conversation, rules)}")
             if rules == "jsonrpc":
                 seen.update(it.rule for it in found if it.side not in conversation.ours)
+            if rules == "mcp":
+                seen[GUESSED] += any(it.is_guessed for it in judge.sides.values())
         seen["written"] += sum(len(it.data) for it in conversation.seen if it.side in conversation.ours)
     return faults, seen
 
@@ -142,10 +151,9 @@ def main(words: list[str]) -> None:
     for kind in KINDS:
         seen = check_ours(count, kind, options.seed, options.cases)
         print(f"{kind}: {seen.pop('written'):,} bytes of ours; of the peers:", dict(seen), flush=True)
-        if kind == "with a peer" and options.cases >= 500:
-            for rule, least in FLOORS.items():
-                wanted = least * options.cases // 1_000
-                count.check(f"{rule}: at least {wanted}", seen[rule] >= wanted, f"{seen[rule]}")
+        for what, least in FLOORS.get(kind, {}).items() if options.cases >= 500 else ():
+            wanted = least * options.cases // 1_000
+            count.check(f"{kind}, {what}: at least {wanted}", seen[what] >= wanted, f"{seen[what]}")
     count.end()
 
 

@@ -41,6 +41,7 @@ class Server(NamedTuple):
     column: int
     comment: str
     found: set[str]  # what examples/judge/README.md has of it, as "server progress-token"
+    is_kept: bool = True  # whether its recordings are
 
     @property
     def name(self) -> str:
@@ -48,16 +49,46 @@ class Server(NamedTuple):
 
     @property
     def knows(self) -> bool:
-        """Whether it has what it needs: gopls asks the compiler."""
-        return self.name != "gopls" or shutil.which("go") is not None
+        """Whether it knows of the file: gopls asks the compiler, and Perl's server tells of no diagnostics here."""
+        return shutil.which("go") is not None if self.name == "gopls" else self.name != "perl"
+
+    @property
+    def is_missing(self) -> bool:
+        return ran.lacks(self.name, "no session with it") or self.name == "perl" and lacks_perls_server()
+
+
+def lacks_perls_server() -> bool:
+    if subprocess.run([*PERL, "1"], stdin=subprocess.DEVNULL, capture_output=True, check=False).returncode == 0:
+        return False
+    print("SKIPPED: a session of Perl::LanguageServer, which perl lacks (libperl-languageserver-perl)", flush=True)
+    return True
 
 
 PYLSP = ("progress-token", "shutdown-code", "shape-result")
+PERL = ["perl", "-MPerl::LanguageServer", "-e"]
 SERVERS = [
     Server(["pylsp"], "words.py", "python", 5, 25, "# ", {f"server {it}" for it in PYLSP}),
     Server(["clangd", "--log=error"], "words.c", "c", 5, 10, "// ", {"server shutdown-code"}),
     # (gopls may end in the middle of a frame once it was told to exit)
     Server(["gopls"], "words.go", "go", 8, 8, "// ", {"server shutdown-code", "server cut-off"}),
+]
+# (under Neovim alone)
+OTHERS = [
+    Server(["fortls"], "words.f90", "fortran", 20, 17, "! ", set(), is_kept=False),
+    Server(["ccls"], "words.c", "c", 5, 10, "// ", set(), is_kept=False),
+    Server(
+        ["efm-langserver", "-c", f"{SOURCES}/efm.yaml"],
+        "words.sh",
+        "sh",
+        2,
+        6,
+        "# ",
+        {"server unanswered"},
+        is_kept=False,
+    ),
+    Server(
+        [*PERL, "Perl::LanguageServer::run"], "words.pl", "perl", 9, 14, "# ", {"server shape-result"}, is_kept=False
+    ),
 ]
 
 
@@ -159,7 +190,7 @@ def put_sources(room: Room) -> None:
 
 
 def neovim(count: ran.Count, server: Server) -> None:
-    room = Room(f"Neovim with {server.name}", f"{server.name}_neovim")
+    room = Room(f"Neovim with {server.name}", f"{server.name}_neovim" if server.is_kept else "")
     put_sources(room)
     more = {"FILE": server.file, "LANGUAGE": server.language, "LINE": str(server.line), "COLUMN": str(server.column)}
     more.update(ADDED=server.comment, KNOWS="yes" if server.knows else "no")
@@ -203,10 +234,13 @@ def check_sessions(count: ran.Count) -> None:
     has_neovim = not ran.lacks("nvim", "no session of its client")
     has_emacs = not ran.lacks("emacs", "no session of Eglot")
     for it in SERVERS:
-        if not ran.lacks(it.name, "no session with it"):
+        if not it.is_missing:
             our_client(count, it)
             if has_neovim:
                 neovim(count, it)
+    for it in OTHERS if has_neovim else ():
+        if not it.is_missing:
+            neovim(count, it)
     if has_neovim:
         editor_of_ours(count, "nvim", "neovim.lua", "language_server_by_hand.py", set())
         editor_of_ours(count, "nvim", "neovim_spelling.lua", "spelling_server.py", set(), "spelling_neovim")

@@ -197,7 +197,9 @@ enum {
     BM_RULE_UNANSWERED,
     BM_RULE_NOT_JUDGED, /* not a rule: the judge can't decide, or can't go on */
     BM_RULE_BOTH_KINDS,
-    BM_RULE_TWICE
+    BM_RULE_TWICE,
+    BM_RULE_PARAMS_OBJECT,
+    BM_RULE_RESULT_OBJECT
 };
 
 /* The options of bm_open. All zero except the size is a good start: frames, responses as soon as possible, no cancels,
@@ -504,7 +506,8 @@ static inline const char *bm_rule_name(uint32_t rule)
         "cancel-unknown", "cancel-initialize",
         "after-cancel",   "unanswered",
         "not-judged",     "both-kinds",
-        "twice",
+        "twice",          "params-object",
+        "result-object",
     };
     return rule < sizeof names / sizeof *names ? names[rule] : "another rule";
 }
@@ -544,6 +547,8 @@ static inline const char *bm_rule_section(uint32_t rule)
         "",
         "JSON-RPC 4, 5",
         "JSON-RPC 4, 5; RFC 8259, 4",
+        "MCP, messages",
+        "MCP, messages",
     };
     return rule < sizeof sections / sizeof *sections ? sections[rule] : "";
 }

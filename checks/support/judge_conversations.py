@@ -3,15 +3,16 @@ to back, with hosts that do what they like.
 
 Each is what was seen of the two sides, in its order: each byte and each end before a connection was told of it."""
 import random
-from itertools import count
 from typing import Iterator, NamedTuple, Optional
 
 from support import connection_sessions as sessions
 from support.connection_script import FRAMINGS, ORDERS, bytes_of
 from support.judge_model import OTHER, SIDES, Finding, Judge
-from support.judge_rules import NOTE
+from support.judge_rules import NOTE, RULES
 
 MOST_STEPS = 120
+# Where a connection has MCP's cancels, it may leave a cancelled request without an answer. By other rules it is owed.
+BY_MCP = tuple(it for it, its in RULES.items() if its.cancel_settles)
 
 
 class Seen(NamedTuple):
@@ -25,12 +26,17 @@ class Conversation(NamedTuple):
     framing: str
     ours: tuple[str, ...]  # the sides that are connections of ours
     seen: list[Seen]
+    rules: tuple[str, ...] = tuple(RULES)  # by which these are accused of nothing
+
+
+def judged(conversation: Conversation, rules: str) -> Judge:
+    judge = Judge(rules, conversation.framing)
+    show(judge, conversation.seen)
+    return judge
 
 
 def found_in(conversation: Conversation, rules: str) -> list[Finding]:
-    judge = Judge(rules, conversation.framing)
-    show(judge, conversation.seen)
-    return judge.findings
+    return judged(conversation, rules).findings
 
 
 def show(judge: Judge, seen: list[Seen]) -> None:
@@ -68,18 +74,14 @@ def pieces_of(chance: random.Random, seen: Seen) -> Iterator[Seen]:
 # A connection before a hurt peer
 
 
-def made_with_answers(seed: str) -> Iterator[sessions.Session]:
-    """Sessions whose connection answers each request: those with MCP's cancels may leave some, which has rules of its own
-    (docs/judge.md, "What is proved")."""
-    for attempt in count():
-        session = sessions.made(f"{seed} {attempt}" if attempt else seed)
-        if session.actions[0].given[2] != "mcp":
-            yield session
+def rules_with(cancels: object) -> tuple[str, ...]:
+    """The rules by which a connection with these cancels is accused of nothing."""
+    return BY_MCP if cancels == "mcp" else tuple(RULES)
 
 
 def with_a_peer(seed: str) -> Conversation:
     """A session of the fuzzer of connections, as it is seen from between."""
-    chance, session = random.Random(f"{seed} side"), next(made_with_answers(seed))
+    chance, session = random.Random(f"{seed} side"), sessions.made(seed)
     ours = chance.choice(SIDES)
     framing = str(session.actions[0].given[0])
     seen = list[Seen]()
@@ -92,7 +94,7 @@ def with_a_peer(seed: str) -> Conversation:
             seen.append(Seen(ours, bytes_of(line.removeprefix("bytes "))))
     if chance.random() < 0.7:
         seen.append(Seen(ours, ended="closed"))
-    return Conversation(seed, framing, (ours,), seen)
+    return Conversation(seed, framing, (ours,), seen, rules_with(session.actions[0].given[2]))
 
 
 # Two connections
@@ -103,13 +105,13 @@ class Half(sessions.Maker):
 
     other: "Half"
 
-    def __init__(self, chance: random.Random, framing: str, side: str, seen: list[Seen]) -> None:
+    def __init__(self, chance: random.Random, framing: str, cancels: str, side: str, seen: list[Seen]) -> None:
         super().__init__(chance)
         self.framing, self.side, self.seen = framing, side, seen
         self.inbox: list[bytes] = []  # what was written to it and isn't fed yet
         self.is_closed = False  # whether what it writes is seen no longer
         content = 16_777_216 if chance.random() < 0.95 else chance.randint(100, 300)
-        cancels = "no-cancels" if chance.random() < 0.15 else "cancels"
+        cancels = "no-cancels" if chance.random() < 0.15 else cancels
         self.do("settings", framing, chance.choice(ORDERS), cancels, content, chance.choice((1000, 1000, 1000, 20)))
 
     def feed(self) -> None:
@@ -168,8 +170,8 @@ class Half(sessions.Maker):
 
 def joined(seed: str) -> Conversation:
     chance = random.Random(seed)
-    framing, seen = chance.choice(FRAMINGS), list[Seen]()
-    one, other = (Half(chance, framing, side, seen) for side in SIDES)
+    framing, cancels, seen = chance.choice(FRAMINGS), chance.choice(("cancels", "mcp")), list[Seen]()
+    one, other = (Half(chance, framing, cancels, side, seen) for side in SIDES)
     one.other, other.other = other, one
     for _ in range(chance.randint(20, MOST_STEPS)):
         half = chance.choice((one, other))
@@ -183,7 +185,7 @@ def joined(seed: str) -> Conversation:
         half.close("closed")
         half.other.settle()
         half.other.end()
-    return Conversation(seed, framing, SIDES, seen)
+    return Conversation(seed, framing, SIDES, seen, rules_with(cancels))
 
 
 # Making a conversation smaller
@@ -200,6 +202,6 @@ def smaller(conversation: Conversation) -> Iterator[Conversation]:
 
 
 def accused(conversation: Conversation, found: list[Finding], marked: tuple[str, ...]) -> Optional[Finding]:
-    """The first finding of a rule that our sides keep. That an answer of theirs may refuse a content is a note."""
+    """The first finding of a rule that our sides keep. A note of what they owe is no accusation."""
     ours = (it for it in found if it.side in conversation.ours and it.rule in marked)
-    return next((it for it in ours if (it.rule, it.level) != ("not-owed", NOTE)), None)
+    return next((it for it in ours if it.rule not in ("not-owed", "not-as-array") or it.level != NOTE), None)

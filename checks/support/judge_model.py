@@ -145,6 +145,8 @@ class Side:
     refusals: int = 0  # its answers with the id null that fitted nothing, and may have refused what it still owes
     unowed: int = 0  # the other side's arrays on which nothing is owed, and which it may still refuse
     initialize: set[Id] = field(default_factory=set)
+    has_cancelled: bool = False  # it sent a cancel by which a request may be left without an answer
+    is_guessed: bool = False  # for which batch an array of it was had to be guessed: what it owes isn't known since
     has_exited: bool = False
     has_unreadable: bool = False  # a content of it couldn't be read
     ended: str = ""  # "closed" or "failed"
@@ -191,10 +193,6 @@ class Judge:
 
     def find(self, side: str, rule: str, level: str, place: Place, words: str = "") -> None:
         self.findings.append(Finding(side, rule, level, place, words[:MOST_WORDS]))
-
-    def is_broken(self) -> bool:
-        """Whether the judge reads no further in the stream of a side."""
-        return any(it.stream.is_over for it in self.sides.values())
 
     # Contents
 
@@ -281,6 +279,8 @@ class Judge:
         self.take_code(side, entry, place, words)
         if entry.kind in ("request", "notification") and entry.method.startswith("rpc."):
             self.find(side, "rpc-name", NOTE, place, words)
+        if self.rules.has_objects:
+            self.take_objects(side, entry, place, words)
         if entry.kind == "notification":
             self.take_notification(side, entry, place, words)
         if entry.first is not None:
@@ -300,6 +300,13 @@ class Judge:
         is_reserved = code is not None and any(code in it for it in self.rules.reserved)
         if entry.kind == "answer" and is_reserved and code not in self.rules.defined:
             self.find(side, "code", MUST, place, words)
+
+    def take_objects(self, side: str, entry: Entry, place: Place, words: str) -> None:
+        """Params and results are objects. The params of a cancel have a rule of their own."""
+        if entry.kind in ("request", "notification") and reading.is_array(entry.params) and not self.is_cancel(entry):
+            self.find(side, "params-object", MUST, place, words)
+        if entry.kind == "answer" and entry.result is not ABSENT and not isinstance(entry.result, Members):
+            self.find(side, "result-object", MUST, place, words)
 
     def take_id(self, side: str, entry: Entry, place: Place, words: str, is_in_batch: bool) -> None:
         """What the id of a request breaks."""
@@ -324,14 +331,19 @@ class Judge:
     def take_notification(self, side: str, entry: Entry, place: Place, words: str) -> None:
         if self.rules.name == "lsp" and entry.method == "exit":
             self.sides[side].has_exited = True
-        if self.rules.cancel and entry.method == self.rules.cancel:
+        if self.is_cancel(entry):
+            self.sides[side].has_cancelled |= self.rules.cancel_settles
             self.take_cancel(side, entry, place, words)
+
+    def is_cancel(self, entry: Entry) -> bool:
+        return entry.kind == "notification" and self.rules.cancel != "" and entry.method == self.rules.cancel
 
     def take_first(self, side: str, first: reading.First) -> None:
         """By the members that stand first, it may be `exit` or a cancel."""
         if self.rules.name == "lsp" and first.method == "exit":
             self.sides[side].has_exited = True
         if self.rules.cancel and first.method == self.rules.cancel:
+            self.sides[side].has_cancelled |= self.rules.cancel_settles
             self.cancel_all(side, self.target_of(first.params))
 
     def take_cancel(self, side: str, entry: Entry, place: Place, words: str) -> None:
@@ -390,7 +402,7 @@ class Judge:
             return
         due, owed = found
         if owed is not None and due.is_batch and answer.entry.kind == "answer":
-            self.find(side, "not-as-array", self.or_note(SHOULD), answer.place, answer.words)
+            self.find(side, "not-as-array", self.or_note(side, SHOULD), answer.place, answer.words)
         self.settle(side, answer, due, owed)
 
     def take_array(self, side: str, answers: list[Answer], place: Place, are_alone: bool) -> None:
@@ -398,10 +410,11 @@ class Judge:
         if not answers:
             return
         is_well = any(it.entry.kind == "answer" for it in answers)
+        self.sides[side].is_guessed |= self.is_guess(side, answers)
         due = self.batch_of(side, answers)
         if due is not None:
             if not are_alone and is_well:
-                self.find(side, "not-as-array", self.or_note(SHOULD), place)
+                self.find(side, "not-as-array", self.or_note(side, SHOULD), place)
             for answer, owed in zip(answers, fitting(due, answers)):
                 self.take_cancelled(side, answer, owed)
             self.settle_whole(side, due)
@@ -417,7 +430,7 @@ class Judge:
                 others.append(answer)
                 continue
             if answer.entry.kind == "answer" and not is_told:
-                self.find(side, "not-as-array", self.or_note(SHOULD), place)
+                self.find(side, "not-as-array", self.or_note(side, SHOULD), place)
                 is_told = True
             self.settle(side, answer, *found)
         if len(others) == len(answers):
@@ -426,8 +439,18 @@ class Judge:
         for answer in others:
             self.fits_nothing(side, [answer])
 
-    def or_note(self, level: str) -> str:
-        return NOTE if self.is_broken() else level
+    def or_note(self, side: str, level: str) -> str:
+        """A note where what a side owes can't be known: the judge reads no further in the stream of either side, or had to
+        guess."""
+        is_broken = any(it.stream.is_over for it in self.sides.values())
+        return NOTE if is_broken or self.sides[side].is_guessed else level
+
+    def is_guess(self, side: str, answers: list[Answer]) -> bool:
+        """Behind a cancel an array may have less than its batch expects, and ids may be used again: so it is a guess for which
+        batch it is, where a batch is open and none expects just its ids."""
+        has_batch = any(it.is_batch for it in self.sides[side].dues)
+        has_id = any(it.entry.id is not ABSENT for it in answers)
+        return self.sides[OTHER[side]].has_cancelled and has_batch and has_id and self.just(side, answers) is None
 
     def fits_nothing(self, side: str, answers: list[Answer]) -> None:
         """An answer, or an array, that fits nothing that is owed. Where an unreadable content is left, the peer may have
@@ -438,7 +461,7 @@ class Judge:
         unreadable = next((it for it in self.sides[side].dues if it.is_unreadable), None)
         if unreadable is not None:
             self.settle_whole(side, unreadable)
-        level = NOTE if unreadable is not None else self.or_note(MUST)
+        level = NOTE if unreadable is not None else self.or_note(side, MUST)
         for it in told:
             self.find(side, "not-owed", level, it.place, f"{self.why_not(side, it.entry.id)}: {it.words}")
 
@@ -532,14 +555,20 @@ class Judge:
         return None
 
     def batch_of(self, side: str, answers: list[Answer]) -> Optional[Due]:
-        """The batch that an array answers: the oldest from which just these ids are expected, else the oldest that has
-        the first of its ids, and whose answer it can be."""
-        batches = [it for it in self.sides[side].dues if it.is_batch]
+        """The batch that an array answers: the oldest from which just these ids are expected, else the oldest whose answer
+        it can be."""
+        just = self.just(side, answers)
+        if just is not None:
+            return just
+        return next((it for it in self.sides[side].dues if it.is_batch and can_be_answered(it, answers)), None)
+
+    def just(self, side: str, answers: list[Answer]) -> Optional[Due]:
+        """The oldest batch from which just the ids of these answers are expected, each as often."""
         ids = Counter(it.entry.id for it in answers if it.entry.id is not ABSENT)
-        for due in batches:
-            if ids and Counter(it.expected for it in due.entries if it.expected is not ABSENT) == ids:
+        for due in self.sides[side].dues:
+            if due.is_batch and ids and Counter(it.expected for it in due.entries if it.expected is not ABSENT) == ids:
                 return due
-        return next((it for it in batches if can_be_answered(it, answers)), None)
+        return None
 
     # Settling
 
@@ -565,7 +594,7 @@ class Judge:
         if owed is None or not owed.is_request or answer.entry.kind != "answer":
             return
         if answer.is_uncalled:
-            level = NOTE if self.sides[OTHER[side]].has_unreadable else self.or_note(SHOULD)
+            level = NOTE if self.sides[OTHER[side]].has_unreadable else self.or_note(side, SHOULD)
             self.find(side, "cancelled-code", level, answer.place, answer.words)
         if self.rules.cancel_settles and owed.is_cancelled:
             self.find(side, "after-cancel", NOTE, answer.place, answer.words)
@@ -578,11 +607,11 @@ class Judge:
         is_excused = asker.ended != "" or asker.has_exited or self.ends_session(side)
         for due in its.dues:
             left = [it for it in due.entries if it.must]
-            may_be_refused = bool(left) and its.refusals > 0
+            may_be_refused = bool(left) and its.refusals > 0 and (due.is_batch or due.has_huge)
             its.refusals -= may_be_refused
             is_note = how == "failed" or due.may_be_answered or may_be_refused
             for owed in [] if is_excused else left:
-                self.find(side, "unanswered", NOTE if is_note else self.or_note(MUST), owed.place, owed.words)
+                self.find(side, "unanswered", NOTE if is_note else self.or_note(side, MUST), owed.place, owed.words)
         its.dues.clear()
         its.refusals = its.unowed = 0
 

@@ -10,6 +10,13 @@ from support.judge_rules import MUST, NOTE, RULES, SHOULD
 from support.row_files import frame
 
 FIRST = 9_000  # ids of what is planted begin here
+# Rules by which a request of a batch may be left out of its array; and what is told of what a side owes.
+LEAVES_OUT = tuple(it for it, its in RULES.items() if its.cancel_settles and its.batch is None)
+OF_WHAT_IS_OWED = ("not-owed", "not-as-array", "unanswered")
+# Params and results that are no objects, and some that are.
+OTHER_PARAMS: tuple[Any, ...] = ([], [{"k": 1}])
+OTHER_RESULTS: tuple[Any, ...] = (None, False, 0, "", [], [{}])
+OBJECTS: tuple[Any, ...] = ({}, {"k": [1, {}]})
 
 
 class Step(NamedTuple):
@@ -21,6 +28,7 @@ class Step(NamedTuple):
     ended: str = ""
     breaks: tuple[tuple[str, str], ...] = ()  # rules and levels that the writer breaks by it
     leaves: str = ""  # the level at which the other side never answers it
+    is_guess: bool = False  # an array: for which batch it is has to be guessed
 
 
 @dataclass
@@ -33,8 +41,29 @@ class Plan:
     steps: list[Step] = field(default_factory=list)
     last_id: int = 0
 
-    def say(self, side: str, value: Any) -> None:
-        self.steps.append(Step(side, text_of(value)))
+    def say(self, side: str, value: Any, is_guess: bool = False) -> None:
+        self.steps.append(Step(side, text_of(value), is_guess=is_guess))
+
+    def call(self, id_: Any) -> dict[str, Any]:
+        """A request with params that its rules allow, or without."""
+        others = () if RULES[self.rules].has_objects else OTHER_PARAMS
+        params = self.chance.choice((None, *OBJECTS, *others))
+        return request(id_) if params is None else request(id_, params=params)
+
+    def answer(self, id_: Any) -> dict[str, Any]:
+        others = () if RULES[self.rules].has_objects else OTHER_RESULTS
+        return result(id_, self.chance.choice((*OBJECTS, *others)))
+
+    def batch(self, side: str) -> list[tuple[str, Any, bool]]:
+        """Says a batch, and cancels some of it, and gives the array that answers it, if any does."""
+        chance, ids = self.chance, [self.id_of() for _ in range(self.chance.randint(1, 3))]
+        gone = chance.sample(ids, chance.randint(0, len(ids))) if self.rules in LEAVES_OUT else []
+        cancels, inside = [cancel(self.rules, it) for it in gone], chance.randint(0, len(gone))
+        for it in ([*map(self.call, ids), notification("note"), *cancels[:inside]], *cancels[inside:]):
+            self.say(side, it)
+        answers = [self.answer(it) for it in ids if it not in gone]
+        chance.shuffle(answers)
+        return [(OTHER[side], answers, gone != [])] if answers else []
 
     def id_of(self) -> Any:
         self.last_id += 1
@@ -53,8 +82,8 @@ def notification(method: str, **more: Any) -> dict[str, Any]:
     return {"jsonrpc": "2.0", "method": method, **more}
 
 
-def result(id_: Any) -> dict[str, Any]:
-    return {"jsonrpc": "2.0", "id": id_, "result": {}}
+def result(id_: Any, value: Any = OBJECTS[0]) -> dict[str, Any]:
+    return {"jsonrpc": "2.0", "id": id_, "result": value}
 
 
 def error(id_: Any, code: int = 5) -> dict[str, Any]:
@@ -70,32 +99,31 @@ def cancel(rules: str, id_: Any) -> dict[str, Any]:
 
 
 def clean(chance: random.Random, rules: str, framing: str) -> Plan:
-    """Requests, notifications, batches and cancels of both sides, each answered as it should be, in any order."""
+    """Requests, notifications, batches and cancels of both sides, each answered as it should be, in any order. What is
+    cancelled by MCP's rules has no answer, and is left out of its batch's array."""
     plan = Plan(chance, rules, framing)
-    due: list[tuple[str, Any]] = []  # answers that are to come
+    due: list[tuple[str, Any, bool]] = []  # answers that are to come, and whether each is a guess
     for _ in range(chance.randint(4, 25)):
         side = chance.choice(SIDES)
         kind = chance.choice(("request", "request", "notification", "batch", "cancel", "answer", "answer", "answer"))
         if kind == "answer" and due:
             plan.say(*due.pop(chance.randrange(len(due))))
         elif kind == "notification":
-            plan.say(side, notification("note"))
+            plan.say(side, notification("note", params=chance.choice(OBJECTS)))
         elif kind == "batch" and RULES[rules].batch is None:
-            ids = [plan.id_of() for _ in range(chance.randint(1, 3))]
-            plan.say(side, [*map(request, ids), notification("note")])
-            due.append((OTHER[side], [result(it) for it in chance.sample(ids, len(ids))]))
+            due += plan.batch(side)
         elif kind == "cancel" and RULES[rules].cancel:
             id_ = plan.id_of()
-            plan.say(side, request(id_))
+            plan.say(side, plan.call(id_))
             plan.say(side, cancel(rules, id_))
             if rules == "lsp":
-                due.append((OTHER[side], error(id_, -32800)))
+                due.append((OTHER[side], error(id_, -32800), False))
         elif kind == "request":
             id_ = plan.id_of()
-            plan.say(side, request(id_))
-            due.append((OTHER[side], result(id_) if chance.random() < 0.5 else error(id_)))
-    for it in due:
-        plan.say(*it)
+            plan.say(side, plan.call(id_))
+            due.append((OTHER[side], plan.answer(id_) if chance.random() < 0.5 else error(id_), False))
+    for answer in due:
+        plan.say(*answer)
     return plan
 
 
@@ -121,7 +149,7 @@ def odd_id(rule: str, id_: str, level: str = "") -> Callable[[str, str], list[St
 
     def steps(side: str, rules: str) -> list[Step]:
         ask = b'{"jsonrpc":"2.0","method":"a","id":%s}' % id_.encode()
-        answer = b'{"jsonrpc":"2.0","id":%s,"result":1}' % id_.encode()
+        answer = b'{"jsonrpc":"2.0","id":%s,"result":{}}' % id_.encode()
         return [*alone(side, ask, rule, level or RULES[rules].id_level), Step(OTHER[side], answer)]
 
     return steps
@@ -152,6 +180,12 @@ def answer_twice(side: str, rules: str) -> list[Step]:
     """An answer with two results, which is one all the same."""
     answer = b'{"jsonrpc":"2.0","id":%d,"result":1,"result":2}' % FIRST
     return [Step(OTHER[side], text_of(request(FIRST))), *alone(side, answer, "twice", SHOULD)]
+
+
+def array_of_params(side: str, rules: str) -> list[Step]:
+    """A request, and its answer."""
+    ask = request(FIRST, params=OTHER_PARAMS[0])
+    return [*alone(side, text_of(ask), "params-object"), Step(OTHER[side], text_of(result(FIRST)))]
 
 
 def again(side: str, rules: str) -> list[Step]:
@@ -224,6 +258,32 @@ def late_answer(side: str, rules: str) -> list[Step]:
     ]
 
 
+def batch_with_a_cancel(side: str, rules: str, leaves: str = "") -> list[Step]:
+    """Two requests of the other side, of which the first one is cancelled."""
+    asks = Step(OTHER[side], text_of([request(FIRST), request(FIRST + 1)]), leaves=leaves)
+    return [asks, Step(OTHER[side], text_of(cancel(rules, FIRST)))]
+
+
+def late_array(side: str, rules: str) -> list[Step]:
+    """All is answered, and one of it twice."""
+    answers = text_of([result(FIRST + 1), result(FIRST)])
+    asked = batch_with_a_cancel(side, rules)
+    return [*asked, *alone(side, answers, "after-cancel", NOTE), *alone(side, text_of(result(FIRST)), "not-owed")]
+
+
+def short_array(side: str, rules: str) -> list[Step]:
+    """What is cancelled is left out, and the other one is answered twice."""
+    answers = Step(side, text_of([result(FIRST + 1)]), is_guess=True)
+    return [*batch_with_a_cancel(side, rules), answers, *alone(side, text_of(result(FIRST + 1)), "not-owed")]
+
+
+def lacking_array(side: str, rules: str) -> list[Step]:
+    """What is cancelled is answered, and the other one never. (A client may end the session by it.)"""
+    told = (("not-as-array", SHOULD), ("after-cancel", NOTE))
+    answers = Step(side, text_of([result(FIRST)]), breaks=told, is_guess=True)
+    return [*batch_with_a_cancel(side, rules, leaves="" if side == "client" else MUST), answers]
+
+
 def foreign(side: str, rules: str) -> list[Step]:
     content = text_of(notification("note"))
     head = b"Content-Type: x; charset=latin1\r\nContent-Length: %d\r\n\r\n" % len(content)
@@ -243,6 +303,7 @@ class Plant(NamedTuple):
 
 LSP, MCP = ("lsp",), tuple(it for it in RULES if it.startswith("mcp"))
 CANCELS, HAVE_IDS = (*LSP, *MCP), tuple(it for it in RULES if it != "mcp")
+KEEP_ALL = tuple(it for it in RULES if it not in LEAVES_OUT)
 ASK, BOTH = request(FIRST), {**result(FIRST), "error": None}
 PLANTS = (
     Plant("head", no_head, framings=("frames",)),
@@ -268,7 +329,10 @@ PLANTS = (
     Plant("not-owed", another_type),
     Plant("not-owed", twice),
     Plant("not-as-array", answers_of_a_batch),
-    Plant("not-as-array", asked("not-as-array", ASK, [result(FIRST)], SHOULD)),
+    # (where a batch may be open behind a cancel, it may be a guess)
+    Plant("not-as-array", asked("not-as-array", ASK, [result(FIRST)], SHOULD), rules=KEEP_ALL),
+    Plant("not-as-array", lacking_array, rules=LEAVES_OUT),
+    Plant("not-owed", short_array, rules=LEAVES_OUT),
     Plant("id-fraction", odd_id("id-fraction", "9000.5")),
     Plant("id-null", odd_id("id-null", "null")),
     Plant("id-form", odd_id("id-form", "9000.0", NOTE)),
@@ -281,6 +345,10 @@ PLANTS = (
     Plant("cancel-unknown", unknown_cancel, rules=CANCELS),
     Plant("cancel-initialize", cancelled_initialize, rules=MCP),
     Plant("after-cancel", late_answer, rules=MCP),
+    Plant("after-cancel", late_array, rules=LEAVES_OUT),
+    Plant("params-object", value("params-object", notification("a", params=OTHER_PARAMS[1])), rules=MCP),
+    Plant("params-object", array_of_params, rules=MCP),
+    *(Plant("result-object", asked("result-object", ASK, result(FIRST, it)), rules=MCP) for it in OTHER_RESULTS),
     Plant("unanswered", never),
 )
 # These are planted at the end of a side's stream.
@@ -332,13 +400,17 @@ def written(step: Step, framing: str) -> bytes:
 
 
 def wanted_of(steps: list[Step], side: str) -> list[tuple[str, str, str, str, int]]:
-    """What is to be found, in its order."""
-    counts, found, left = dict.fromkeys(SIDES, 0), [], []
+    """What is to be found, in its order. Behind a guess, what is told of what a side owes is a note."""
+    counts, found, left, guessed = dict.fromkeys(SIDES, 0), [], [], set()
     for it in steps:
         counts[it.side] += not it.is_raw and not it.ended or it.breaks != ()
-        found += [(it.side, rule, level, it.side, counts[it.side]) for rule, level in it.breaks]
+        if it.is_guess:
+            guessed.add(it.side)
+        for rule, level in it.breaks:
+            is_softened = it.side in guessed and rule in OF_WHAT_IS_OWED
+            found.append((it.side, rule, NOTE if is_softened else level, it.side, counts[it.side]))
         if it.leaves:
             left.append((OTHER[it.side], "unanswered", it.leaves, it.side, counts[it.side]))
         if it.ended and it.side == side:
-            found += left
+            found += [(who, rule, NOTE if who in guessed else level, of, at) for who, rule, level, of, at in left]
     return found

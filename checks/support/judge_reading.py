@@ -197,7 +197,8 @@ class Entry:
     is_odd: bool = False  # its id is a number that isn't written as a whole one of 64 bits
     method: str = ""
     params: Any = ABSENT
-    error: Any = ABSENT  # (of an answer)
+    result: Any = ABSENT  # (of an answer, as the next one)
+    error: Any = ABSENT
     is_both: bool = False  # it has a method and an id, and a result or an error too
     lacks_id: bool = False  # it is an error alone, and has no id
     first: Optional[First] = None  # where a member of it stands twice
@@ -219,6 +220,10 @@ class Entry:
 
 def is_structured(value: Any) -> bool:
     return isinstance(value, list)  # (an object's members are a list too)
+
+
+def is_array(value: Any) -> bool:
+    return isinstance(value, list) and not isinstance(value, Members)
 
 
 def is_error(value: Any) -> bool:
@@ -290,7 +295,8 @@ def entry_of(value: Any) -> Entry:
     is_broken = bool(faults) or first is not None
     kind = "invalid" if not is_like else "broken answer" if is_broken else "answer"
     lacks_id = "error" in members and not {"id", "result"} & {*members}
-    return Entry(kind, faults, id_, is_odd, error=members.get("error", ABSENT), lacks_id=lacks_id, first=first)
+    result, error = members.get("result", ABSENT), members.get("error", ABSENT)
+    return Entry(kind, faults, id_, is_odd, result=result, error=error, lacks_id=lacks_id, first=first)
 
 
 class Unit(NamedTuple):
@@ -304,8 +310,7 @@ class Unit(NamedTuple):
 
 def unit_of(content: Content) -> Unit:
     value = value_of(content)
-    is_array = isinstance(value, list) and not isinstance(value, Members)
-    values = value if is_array else [value]
+    values = value if is_array(value) else [value]
     if len(values) > MOST_ENTRIES:
         raise Unreadable("not-judged", f"it has more than {MOST_ENTRIES:,} entries")
     texts = tuple(connection_reading.text_of(it) for it in values)
@@ -313,4 +318,4 @@ def unit_of(content: Content) -> Unit:
     is_twice = any(it.first is not None for it in entries)
     is_deep = any(it.kind == "request" and depth_of(part) > SAFE_DEPTH for it, part in zip(entries, values))
     may_be_refused = has_huge(value) or is_twice or is_deep
-    return Unit(is_array, entries, texts, may_be_refused)
+    return Unit(is_array(value), entries, texts, may_be_refused)

@@ -38,6 +38,8 @@ HOST = (
     "cancel-unknown",
     "cancel-initialize",
     "after-cancel",
+    "params-object",
+    "result-object",
     "unanswered",
 )
 NOT_JUDGED = "not-judged"
@@ -46,7 +48,7 @@ OTHER_LEVELS = {
     "line-end": (NOTE,),
     "twice": (SHOULD,),
     "batch": (NOTE, MUST),
-    "not-as-array": (SHOULD,),
+    "not-as-array": (SHOULD, NOTE),
     "id-fraction": (SHOULD, MUST),
     "id-null": (SHOULD, MUST),
     "id-form": (NOTE,),
@@ -72,6 +74,7 @@ class Rules(NamedTuple):
     cancel: str = ""  # the method of a cancel
     target: str = ""  # the member of its params that names a request
     cancel_settles: bool = False  # a request whose cancel was seen is owed no longer
+    has_objects: bool = False  # params and results are objects
     ids_once: bool = False  # an id may never be used again
     ends_by_close: bool = False  # a client ends the session by its end
     leaves_ids_out: bool = False  # an error may be without an id, and a cancel without that of a request
@@ -87,6 +90,7 @@ MCP = Rules(
     cancel="notifications/cancelled",
     target="requestId",
     cancel_settles=True,
+    has_objects=True,
     ids_once=True,
     ends_by_close=True,
 )

@@ -9,6 +9,7 @@ from support import judge_planted as plants
 from support import judge_rows as rows
 from support import ran
 from support.connection_script import FRAMINGS
+from support.judge_answering import leaving
 from support.judge_conversations import Conversation, Seen, show
 from support.judge_model import MOST_CONTENT, MOST_IDS, SIDES, Finding, Judge
 from support.judge_refusals import refusing
@@ -117,6 +118,7 @@ KINDS = {
     "joined": conversations.joined,
     "planted": planted,
     "refused": refusing,
+    "leaving": leaving,
 }
 
 

@@ -10,6 +10,8 @@ from bullmyrtle.connection import Connection  # type: ignore[import]
 METHODS = ("a", "add", "$/progress", "", '\u00e9\\n\n"', "notifications/x")
 PARAMS = (None, None, b"[]", b"{}", b'[ "x", 1.50 ]', b'{ "k" : "\\u001f\\/" }', b"[[[1e-7,-0]]]")
 RESULTS = (b"null", b"true", b"5", b' [ 1.50 , {"a":"\\/"} ] ', b'"\\u00e9\\n"', b"{}", b"1e400")
+# Those that are objects.
+OBJECTS = (b"{}", b'{ "k" : "\\u001f\\/" }', b' { "a" : [ 1.50 , null ] , "b":{} } ', b'{"":1e400}')
 CODES = (-32601, -32000, -32803, 0, 5, -(1 << 63), (1 << 63) - 1)
 # Isn't defined (JSON-RPC 5.1).
 WRONG_CODE = -32500
@@ -30,6 +32,7 @@ class Ways(NamedTuple):
     cancels: Optional[str]
     has_batches: bool
     cancels_freely: bool  # it answers requests as cancelled that nobody cancelled
+    has_objects: bool  # its params and results are objects
     is_wrong: bool  # it breaks a rule once, by an error with a code that isn't defined
     seed: int
 
@@ -95,7 +98,8 @@ class Host:
         return self.open[self.draw(len(self.open))].number if self.open and self.draw(3) == 0 else 0
 
     def said(self) -> tuple[str, Optional[bytes]]:
-        return METHODS[self.draw(len(METHODS))], PARAMS[self.draw(len(PARAMS))]
+        params = (None, *OBJECTS) if self.ways.has_objects else PARAMS
+        return METHODS[self.draw(len(METHODS))], params[self.draw(len(params))]
 
     def call(self) -> None:
         number = self.speaker()
@@ -139,7 +143,8 @@ class Host:
             self.fail(it, CODES[self.draw(len(CODES))])
             self.did["failures"] += 1
         else:
-            self.connection.answer(it.number, RESULTS[self.draw(len(RESULTS))])
+            results = OBJECTS if self.ways.has_objects else RESULTS
+            self.connection.answer(it.number, results[self.draw(len(results))])
             self.did["answers"] += 1
 
     def close_one(self) -> None:

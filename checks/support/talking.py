@@ -12,6 +12,8 @@ SIDES = ("client", "server")
 ORDERS = ("as-answered", "as-came")
 # How a host breaks the rules, where it is meant to, and the rule that it breaks.
 WRONGS = {"a code": "code", "an answer twice": "not-owed", "an early end": "unanswered"}
+# Those of what a side owes.
+OF_WHAT_IS_OWED = ("not-owed", "unanswered")
 # The code that isn't defined, as it is written.
 WRONG_CODE = b'"code":-32500,'
 # Behind so many rounds in which a conversation winds up, it goes on for ever.
@@ -42,12 +44,14 @@ class Plan:
         """The host of a side."""
         is_wrong = (self.wrong, self.wrong_side) == ("a code", at)
         order, cancels, freely = ORDERS[self.orders[at]], self.cancels[at], self.rules != "lsp"
-        return Host(Ways(self.framing, order, cancels, self.has_batches, freely, is_wrong, self.seeds[at]))
+        has_objects = RULES[self.rules].has_objects
+        return Host(Ways(self.framing, order, cancels, self.has_batches, freely, has_objects, is_wrong, self.seeds[at]))
 
 
 def planned(name: str, wrong: str = "") -> Plan:
     """Rules, framings and ways to cancel go together as they may. In step nothing crosses, so that in `mcp` no answer
-    comes behind its cancel: an answer that waits for others, of its batch or in its order, could."""
+    comes behind its cancel: an answer that waits for others, of its batch or in its order, could. Nor does a host answer
+    twice or end early where a request may be left out of its batch: behind a guess that is a note."""
     chance = random.Random(name)
     rules = chance.choice([*RULES])
     in_step = chance.random() < 0.5
@@ -56,7 +60,8 @@ def planned(name: str, wrong: str = "") -> Plan:
     else:
         one, other = (chance.choice(("lsp", "lsp", "lsp", None)) for _ in SIDES)
         cancels = one, other
-    has_batches = rules == "jsonrpc" or (rules == "mcp:2025-03-26" and not in_step)
+    is_sure = WRONGS.get(wrong) not in OF_WHAT_IS_OWED
+    has_batches = rules == "jsonrpc" or (rules == "mcp:2025-03-26" and not in_step and is_sure)
     orders = (0, 0) if in_step else (chance.randint(0, 1), chance.randint(0, 1))
     seeds = chance.getrandbits(64), chance.getrandbits(64)
     framing = "lines" if wrong == "an answer twice" else chance.choice(FRAMINGS)

@@ -65,7 +65,7 @@ void bm_judge_free(bm_judge judge)
 /* What bm_rule_name, bm_rule_section and bm_level_text say, in the order of the rules. */
 void say_tables(void)
 {
-    for (uint32_t it = BM_RULE_HEAD; it <= BM_RULE_TWICE; it++)
+    for (uint32_t it = BM_RULE_HEAD; it <= BM_RULE_RESULT_OBJECT; it++)
         fprintf(said(), "%s: %s\n", bm_rule_name(it), bm_rule_section(it));
     for (uint32_t it = BM_MUST; it <= BM_NOTE; it++)
         fprintf(said(), "%s\n", bm_level_text(it));

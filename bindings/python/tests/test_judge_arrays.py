@@ -9,7 +9,7 @@ from bullmyrtle.judge import Talk, line_of
 
 NOTIFICATION = {"jsonrpc": "2.0", "method": "a"}
 REQUEST = {**NOTIFICATION, "id": 5}
-ANSWER = {"jsonrpc": "2.0", "id": 9, "result": 1}
+ANSWER = {"jsonrpc": "2.0", "id": 9, "result": {}}
 WORDS = "a content may have been refused whole: "
 
 

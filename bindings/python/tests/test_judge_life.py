@@ -273,6 +273,18 @@ class Cancels(Case):
         )
 
 
+class Words(Case):
+    def test_a_result_is_told_with_its_method(self):
+        """(which an answer doesn't have itself)"""
+        ask, answer = b'{"jsonrpc":"2.0","id":1,"method":"ping"}', b'{"jsonrpc":"2.0","id":1,"result":7}'
+        talk = Talk("mcp", "contents")
+        talk.saw("client", ask)
+        found = talk.saw("server", answer) + talk.saw("server", answer)
+        talk.close()
+        told = [it.words for it in found if it.rule == "result-object"]
+        self.assertEqual(told, [f"ping: {answer.decode()}", answer.decode()])
+
+
 class Unsure(Case):
     """Where something couldn't be read, nobody is accused of what may have stood there."""
 

@@ -127,7 +127,7 @@ class Commands(Case):
             self.run_apart("--judged", self.file, "call", "count", "text=a", 'words=["a"]'), "1\n"
         )
         self.assertIn("judge: found: 0 must, 0 should", self.said)
-        wrong = '{"jsonrpc":"2.0","id":1,"method":"ping"}\n{"jsonrpc":"2.0","id":1,"result":1}\n'
+        wrong = '{"jsonrpc":"2.0","id":1,"method":"ping"}\n{"jsonrpc":"2.0","id":1,"result":{}}\n'
         said = self.run_apart(self.file, "judge", input=wrong)
         self.assertEqual(json.loads(said)["result"], {})
         self.assertIn("judge: found: 1 must", self.said)

@@ -110,6 +110,8 @@ pub const BM_RULE_UNANSWERED: u32 = 27;
 pub const BM_RULE_NOT_JUDGED: u32 = 28;
 pub const BM_RULE_BOTH_KINDS: u32 = 29;
 pub const BM_RULE_TWICE: u32 = 30;
+pub const BM_RULE_PARAMS_OBJECT: u32 = 31;
+pub const BM_RULE_RESULT_OBJECT: u32 = 32;
 
 #[repr(C)]
 #[derive(Clone, Copy, Debug, Default)]

@@ -10,7 +10,6 @@ use Rattle.conversation_dues.proofs.Left.{position-first}
 use Rattle.conversation_dues.specs.Found.{first_of, index_of, values_of, target_at, whole_if}
 use Rattle.conversation_dues.specs.declared.targets.Place.TheVariants as places
 use Rattle.conversation_open.specs.Open.{contents_of, settled_at, and_removed, is_empty, IsNoneBetween, IsNoneBehind}
-use Rattle.conversation_ids.specs.OwedMarks.{due_has}
 use Rattle.conversation_rules.specs.Dues.{settled, settled_entry, fit_in, found}
 use Rattle.conversation_rules.specs.Matching.{oldest, place_in, later}
 use Rattle.conversation_rules.specs.Owed.{Owed, Due}
@@ -165,26 +164,26 @@ entry_found n place es = ap (λ o. option_map Entry (option_and_then (fit_in pla
 pub scan_first : (f : Due → Option ℕ) (es : List (ℕ × Due)) → Above 0 es → (n : ℕ) (x : Due) → n ≤ 0 → at n es ≡ Some x → f x ≡ None
 scan_first f es above n x le there = absurd (let over : 0 < n = at_above 0 n x es above there in omega arith)
 
-pub scan_next : (f : Due → Option ℕ) (mark after number : ℕ) (es : List (ℕ × Due)) → ((n : ℕ) (x : Due) → n ≤ after → at n es ≡ Some x → f x ≡ None) → IsNoneBetween mark after number es →
-    ((x : Due) → due_has mark x ≡ false → f x ≡ None) → None ≡ option_and_then f (at number es) → (n : ℕ) (x : Due) → n ≤ number → at n es ≡ Some x → f x ≡ None
-scan_next f mark after number es before between fails none n x le there = from (nat_le n after) (n == number) refl refl
+pub scan_next : (f : Due → Option ℕ) (is_one : Due → Bool) (after number : ℕ) (es : List (ℕ × Due)) → ((n : ℕ) (x : Due) → n ≤ after → at n es ≡ Some x → f x ≡ None) → IsNoneBetween is_one after number es →
+    ((x : Due) → is_one x ≡ false → f x ≡ None) → None ≡ option_and_then f (at number es) → (n : ℕ) (x : Due) → n ≤ number → at n es ≡ Some x → f x ≡ None
+scan_next f is_one after number es before between fails none n x le there = from (nat_le n after) (n == number) refl refl
   where
     from : (low same : Bool) → nat_le n after ≡ low → (n == number) ≡ same → f x ≡ None
     from true same within is = before n x (leb-true n after within) there
     from false true beyond is = sym (none ∙ ap (option_and_then f) (ap (λ k. at k es) (sym (eqb-true n number is)) ∙ there))
     from false false beyond is = let differs : n ≡ number → ⊥ = eqb-false n number is in fails x (between n x (leb-false n after beyond) (omega arith) there)
 
-pub scan_none : (f : Due → Option ℕ) (mark after : ℕ) (es : List (ℕ × Due)) → Ascending es → ((n : ℕ) (x : Due) → n ≤ after → at n es ≡ Some x → f x ≡ None) → IsNoneBehind mark after es →
-    ((x : Due) → due_has mark x ≡ false → f x ≡ None) → None ≡ first_of f es
-scan_none f mark after es order before behind fails = sym (first_none f es order (λ n x there. from n x there (nat_le n after) refl))
+pub scan_none : (f : Due → Option ℕ) (is_one : Due → Bool) (after : ℕ) (es : List (ℕ × Due)) → Ascending es → ((n : ℕ) (x : Due) → n ≤ after → at n es ≡ Some x → f x ≡ None) → IsNoneBehind is_one after es →
+    ((x : Due) → is_one x ≡ false → f x ≡ None) → None ≡ first_of f es
+scan_none f is_one after es order before behind fails = sym (first_none f es order (λ n x there. from n x there (nat_le n after) refl))
   where
     from : (n : ℕ) (x : Due) → at n es ≡ Some x → (low : Bool) → nat_le n after ≡ low → f x ≡ None
     from n x there true within = before n x (leb-true n after within) there
     from n x there false beyond = fails x (behind n x (leb-false n after beyond) there)
 
-pub scan_found : (f : Due → Option ℕ) (mark after number p : ℕ) (es : List (ℕ × Due)) → Ascending es → ((n : ℕ) (x : Due) → n ≤ after → at n es ≡ Some x → f x ≡ None) → IsNoneBetween mark after number es →
-    ((x : Due) → due_has mark x ≡ false → f x ≡ None) → Some p ≡ option_and_then f (at number es) → Some (number, p) ≡ first_of f es
-scan_found f mark after number p es order before between fails found = at_it (at number es) refl found
+pub scan_found : (f : Due → Option ℕ) (is_one : Due → Bool) (after number p : ℕ) (es : List (ℕ × Due)) → Ascending es → ((n : ℕ) (x : Due) → n ≤ after → at n es ≡ Some x → f x ≡ None) → IsNoneBetween is_one after number es →
+    ((x : Due) → is_one x ≡ false → f x ≡ None) → Some p ≡ option_and_then f (at number es) → Some (number, p) ≡ first_of f es
+scan_found f is_one after number p es order before between fails found = at_it (at number es) refl found
   where
     earlier : (n : ℕ) (x : Due) → n < number → at n es ≡ Some x → (low : Bool) → nat_le n after ≡ low → f x ≡ None
     earlier n x lt there true within = before n x (leb-true n after within) there

@@ -8,13 +8,15 @@ ghost use Rattle.conversation_dues.specs.Found.{first_of, index_of, whole_if};
 ghost use Rattle.conversation_dues.specs.declared.batches.Answer.{Answer as AnswerValue};
 ghost use Rattle.conversation_open.specs.Open.{open_entries, contents_of, IsOpen};
 ghost use Rattle.conversation_ids.specs.OwedMarks.{due_has};
-ghost use Rattle.conversation_rules.specs.Dues.{array_target};
+ghost use Rattle.conversation_rules.specs.Dues.{array_target, ids_read};
+ghost use Rattle.conversation_rules.specs.Matching.{is_guess};
 ghost use Rattle.conversation_rules.specs.Owed.{Due as DueValue};
 ghost use Rattle.number_windows.specs.Numbered.{at};
 
 use crate::arrays::{can_be_answered, is_just};
+use crate::targets::has_batch;
 use conversation_ids::{Due, mark_of, null_mark};
-use conversation_open::OpenContents;
+use conversation_open::{Among, OpenContents};
 use conversation_reading::WrittenId;
 use std::alloc::{AllocError, Global};
 
@@ -36,6 +38,25 @@ pub(crate) fn array_target(
         Some(number) => Ok(Some(number)),
         None => first_batch(alloc, Answer::Possible, contents, ids),
     }
+}
+
+/// Whether it has to be guessed for which batch such an array is: one is open, and just these ids are expected from none.
+pub(crate) fn is_guess(
+    alloc: Global,
+    contents: &OpenContents,
+    ids: &[Option<WrittenId>],
+) -> Result<bool, AllocError>
+    requires { IsOpen contents.now }
+    ensures { IfOk result (λ b. b ≡ is_guess (ids_read ids.now) (contents_of (open_entries contents.now))) }
+{
+    if !has_named(ids) {
+        return Ok(false);
+    }
+    if !has_batch(contents) {
+        return Ok(false);
+    }
+    let expected = first_batch(alloc, Answer::Just, contents, ids)?;
+    Ok(expected.is_none())
 }
 
 /// Whether any id can be read.
@@ -68,7 +89,7 @@ fn first_batch(
 {
     let mark = first_mark(ids);
     let mut after = 0;
-    while let Some(number) = contents.next_with(mark, after) {
+    while let Some(number) = contents.next_with(Among::Batches, mark, after) {
         if is_answered_at(alloc, answer, contents, number, ids)? {
             return Ok(Some(number));
         }

@@ -1,8 +1,9 @@
 ghost use Rattle.std.specs.Prelude.{◌≡◌, ◌++◌, ◌∷◌, [], map, length, is_some, option_map, IfOk, OnOk, OnErr};
-ghost use Rattle.conversation_rules.specs.Dues.{owed_more, closed, may_be_refused, is_asked, has_cancelled, cancelled_in, settled, found, unreadable_target, array_target, found_batch, settled_batch, unanswered};
-ghost use Rattle.conversation_rules.specs.Matching.{named_target, null_target, parse_error_target};
+ghost use Rattle.conversation_rules.specs.Dues.{owed_more, closed, may_be_refused, is_asked, has_cancelled, cancelled_in, settled, found, unreadable_target, array_target, found_batch, ids_read, settled_batch, unanswered};
+ghost use Rattle.conversation_rules.specs.Matching.{is_guess, named_target, null_target, parse_error_target};
 ghost use Rattle.conversation_rules.specs.Owed.{new_due, unreadable_due};
 
+use crate::batches::is_guess;
 use crate::settling::{
     settle_batch, settle_named, settle_null, settle_parse_error, settle_unreadable,
 };
@@ -169,6 +170,14 @@ impl Dues {
         ensures err { OnErr result (self.new ≡ self.old) }
     {
         settle_batch(self.alloc, &mut self.contents, ids)
+    }
+
+    /// Whether it has to be guessed for which batch an array of answers with these ids is: one is open, and just these are
+    /// expected from none.
+    pub fn is_guess(&self, ids: &[Option<WrittenId>]) -> Result<bool, AllocError>
+        ensures { IfOk result (λ b. b ≡ is_guess (ids_read ids.now) self.now) }
+    {
+        is_guess(self.alloc, &self.contents, ids)
     }
 
     /// The requests that must be answered, and aren't.

@@ -1,8 +1,8 @@
 //! What is looked for among contents, and the oldest that has it.
 
-ghost use Rattle.std.specs.Prelude.{◌≡◌, false, Some, None, is_some, option_and_then, if◌then◌else◌};
+ghost use Rattle.std.specs.Prelude.{◌≡◌, ℕ, false, Some, None, is_some, option_and_then, if◌then◌else◌};
 ghost use Rattle.conversation_dues.specs.Found.{place_of, first_of};
-ghost use Rattle.conversation_open.specs.Open.{open_entries, IsOpen};
+ghost use Rattle.conversation_open.specs.Open.{open_entries, among_has, IsOpen};
 ghost use Rattle.conversation_ids.specs.OwedMarks.{due_has, entry_has};
 ghost use Rattle.conversation_ids.specs.Ways.{fits};
 ghost use Rattle.conversation_reading.specs.declared.entry.WrittenId.{WrittenId as IdValue};
@@ -11,7 +11,7 @@ ghost use Rattle.conversation_rules.specs.Owed.{Due as DueValue, Owed as OwedVal
 ghost use Rattle.number_windows.specs.Numbered.{at};
 
 use conversation_ids::{Due, Way, batch_mark, huge_mark, mark_of, null_mark, unreadable_mark};
-use conversation_open::OpenContents;
+use conversation_open::{Among, OpenContents};
 use conversation_reading::WrittenId;
 
 #[derive(Clone, Copy)]
@@ -58,6 +58,18 @@ impl Sought {
         }
     }
 
+    /// Among which contents it is found.
+    fn among(self) -> Among
+        ensures { (id : IdValue) (mark : ℕ) (due : DueValue) → (due_has mark due ≡ false → place_of self id due ≡ None) →
+            among_has result mark due ≡ false → place_of self id due ≡ None }
+    {
+        match self {
+            Sought::Single(_) => Among::Singles,
+            Sought::InBatch(_) | Sought::Batch => Among::Batches,
+            Sought::Asked | Sought::Cancelled | Sought::Unreadable | Sought::Huge => Among::All,
+        }
+    }
+
     /// Its place on a content: that of the entry, or 0.
     fn place_in(self, id: &WrittenId, due: &Due) -> Option<usize>
         ensures { result ≡ place_of self id.now due.now }
@@ -81,7 +93,8 @@ pub(crate) fn first(contents: &OpenContents, sought: Sought, id: &WrittenId) -> 
 {
     let mark = sought.mark(id);
     let mut after = 0;
-    while let Some(number) = contents.next_with(mark, after) {
+    let among = sought.among();
+    while let Some(number) = contents.next_with(among, mark, after) {
         if let Some(place) = place_at(contents, number, sought, id) {
             return Some((number, place));
         }

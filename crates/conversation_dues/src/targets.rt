@@ -165,7 +165,8 @@ pub(crate) fn may_be_refused(contents: &OpenContents) -> bool
     has_batch(contents) || has_huge(contents)
 }
 
-fn has_batch(contents: &OpenContents) -> bool
+/// Whether a batch is open.
+pub(crate) fn has_batch(contents: &OpenContents) -> bool
     requires { IsOpen contents.now }
     ensures { result ≡ list_any (λ due. due.is_batch) (contents_of (open_entries contents.now)) }
 {

@@ -4,7 +4,7 @@ ghost use Rattle.std.specs.Prelude.{◌≡◌, ◌++◌, OnOk, Some, false};
 ghost use Rattle.std.specs.Option.{option_map_or};
 ghost use Rattle.conversation_entries.specs.Said.{said};
 ghost use Rattle.conversation_rules.specs.Entries as rules;
-ghost use Rattle.conversation_rules.specs.Entries.{fault_findings, both_findings, twice_findings, has_first_method, is_first_cancel, code_of, code_findings, name_findings, is_cancel, may_lack_id, cancel_params_level, named_findings, cancel_findings, unknown_level};
+ghost use Rattle.conversation_rules.specs.Entries.{fault_findings, both_findings, twice_findings, has_first_method, is_first_cancel, code_of, code_findings, name_findings, object_findings, is_cancel, may_lack_id, cancel_params_level, named_findings, cancel_findings, unknown_level};
 ghost use Rattle.conversation_rules.specs.Protocols as protocols;
 ghost use Rattle.conversation_rules.specs.Speakers.{found, found_if};
 
@@ -264,6 +264,45 @@ pub(crate) fn put_name(
 {
     let is_kept = (is_request(entry.kind) || is_notification(entry.kind)) && has_kept_name(entry);
     put_if(is_kept, findings, message, at, Rule::RpcName, Level::Note)
+}
+
+/// Whether its params are an array, and no rule on cancels says so.
+fn has_array_params(protocol: Protocol, entry: &Entry) -> bool
+    ensures { result ≡ rules.has_array_params protocol entry.now }
+{
+    let has_params = is_request(entry.kind) || is_notification(entry.kind);
+    has_params && entry.array_params && !is_cancel(protocol, entry)
+}
+
+/// Params or a result that is no object (MCP, messages).
+pub(crate) fn put_objects(
+    protocol: Protocol,
+    findings: &mut Vec<Finding>,
+    message: Message,
+    at: u64,
+    entry: &Entry,
+) -> Result<(), AllocError>
+    ensures { OnOk result (findings.new.items
+        ≡ findings.old.items ++ object_findings protocol message at entry.now) }
+{
+    let has_array = is_mcp(protocol) && has_array_params(protocol, entry);
+    put_if(
+        has_array,
+        findings,
+        message,
+        at,
+        Rule::ParamsObject,
+        Level::Must,
+    )?;
+    let has_other = is_mcp(protocol) && is_well(entry.kind) && entry.bare_result;
+    put_if(
+        has_other,
+        findings,
+        message,
+        at,
+        Rule::ResultObject,
+        Level::Must,
+    )
 }
 
 pub(crate) fn has_method(method: &str, entry: &Entry) -> bool

@@ -4,13 +4,14 @@ ghost use Rattle.std.specs.Option.{option_map_or};
 ghost use Rattle.std.specs.Prelude.{◌≡◌, ◌++◌, OnOk, IfOk, codes, false};
 ghost use Rattle.conversation_entries.specs.Said.{said};
 ghost use Rattle.conversation_rules.specs.Entries as rules;
-ghost use Rattle.conversation_rules.specs.Entries.{cancelled_by, owed_after_first, is_exit, number_findings, form_findings, again_findings, request_findings, id_findings, part_findings, plain_findings, fills_id, with_id_of, with_notification, with_owed, entry_findings, behind_entry};
+ghost use Rattle.conversation_rules.specs.Entries.{cancelled_by, may_leave, owed_after_first, is_exit, number_findings, form_findings, again_findings, request_findings, id_findings, part_findings, plain_findings, fills_id, with_id_of, with_notification, with_owed, entry_findings, behind_entry};
 ghost use Rattle.conversation_rules.specs.Protocols as protocols;
 ghost use Rattle.conversation_rules.specs.Speakers.{found, found_if};
 
 use crate::entries::{
     has_first_method, has_method, is_answer, is_cancel, is_first_cancel, is_notification,
-    is_request, put_both, put_cancel, put_code, put_faults, put_if, put_name, put_twice,
+    is_request, put_both, put_cancel, put_code, put_faults, put_if, put_name, put_objects,
+    put_twice,
 };
 use crate::protocols::{is_lsp, is_mcp};
 use crate::speaker::Speaker;
@@ -167,7 +168,8 @@ fn put_parts(
     put_both(findings, message, at, entry)?;
     put_twice(findings, message, at, entry)?;
     put_code(protocol, findings, message, at, entry)?;
-    put_name(findings, message, at, entry)
+    put_name(findings, message, at, entry)?;
+    put_objects(protocol, findings, message, at, entry)
 }
 
 /// What an entry breaks by itself, but for the room for its id.
@@ -214,10 +216,29 @@ fn take_notification(protocol: Protocol, own: &mut Speaker, entry: &Entry)
     if is_exit(protocol, entry) {
         own.has_exited = true;
     }
+    if may_leave(protocol, entry) {
+        own.has_cancelled = true;
+    }
     if is_cancel(protocol, entry) {
         take_cancel(protocol, own, &entry.target);
     }
     take_first_cancel(protocol, own, &entry.first);
+}
+
+/// Whether it is a cancel by rules where its request may be left without an answer.
+fn may_leave(protocol: Protocol, entry: &Entry) -> bool
+    ensures { result ≡ may_leave protocol entry.now }
+{
+    is_mcp(protocol) && (is_cancel(protocol, entry) || is_cancel_by_first(protocol, &entry.first))
+}
+
+fn is_cancel_by_first(protocol: Protocol, first: &Option<First>) -> bool
+    ensures { result ≡ option_map_or (rules.is_first_cancel protocol) first.now false }
+{
+    match first {
+        Some(first) => is_first_cancel(protocol, first),
+        None => false,
+    }
 }
 
 /// By the members that stand first it may be a cancel too.

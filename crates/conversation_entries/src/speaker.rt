@@ -23,6 +23,10 @@ pub struct Speaker {
     /// The ids that its requests had, and those of `initialize`.
     pub used: UsedIds,
     pub initialize: UsedIds,
+    /// It sent a cancel by rules where a request whose cancel was seen may be left.
+    pub has_cancelled: bool,
+    /// It had to be guessed for which of its batches an array was.
+    pub is_guessed: bool,
     pub has_exited: bool,
     /// A content of it couldn't be read.
     pub has_unreadable: bool,
@@ -45,6 +49,8 @@ pub fn new_speaker(alloc: Global, ids: u32) -> Speaker
         },
         used: UsedIds::new(alloc, ids),
         initialize: UsedIds::new(alloc, ids),
+        has_cancelled: false,
+        is_guessed: false,
         has_exited: false,
         has_unreadable: false,
         is_over: false,

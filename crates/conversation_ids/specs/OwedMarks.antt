@@ -1,5 +1,5 @@
 -- By which marks what is owed is found.
-use Rattle.std.specs.Prelude.{ℕ, ◌==◌, ◌&&◌, ◌||◌, Bool, false, Option}
+use Rattle.std.specs.Prelude.{ℕ, ◌==◌, ◌&&◌, ◌||◌, not, Bool, false, Option}
 use Rattle.std.specs.List.{list_any}
 use Rattle.std.specs.Option.{option_map_or}
 use Rattle.conversation_ids.specs.Marks.{mark_of, null_mark}
@@ -13,6 +13,10 @@ has_mark mark id = option_map_or (λ id. mark_of id == mark) id false
 -- answer may have that
 abbrev pub entry_has : ℕ → Owed → Bool
 entry_has mark owed = has_mark mark owed.first || (has_mark mark owed.own || (has_mark mark owed.expected || (owed.may_be_null && null_mark == mark)))
+
+-- it is a request whose cancel wasn't seen, by the id that its answer is expected to have
+abbrev pub request_has : ℕ → Owed → Bool
+request_has mark owed = owed.is_request && (not owed.is_cancelled && has_mark mark owed.expected)
 
 -- what is asked of a content itself; no id has one of these
 abbrev pub unreadable_mark : ℕ
@@ -29,3 +33,7 @@ content_has mark due = (due.is_unreadable && unreadable_mark == mark) || ((due.h
 
 abbrev pub due_has : ℕ → Due → Bool
 due_has mark due = content_has mark due || list_any (entry_has mark) due.entries
+
+-- such a request is open on it
+abbrev pub uncancelled_has : ℕ → Due → Bool
+uncancelled_has mark due = list_any (request_has mark) due.entries

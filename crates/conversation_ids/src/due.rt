@@ -3,7 +3,7 @@ ghost use Rattle.std.specs.List.{list_any};
 ghost use Rattle.conversation_rules.specs.Dues.{is_open, cancelled, cancelled_in, fit_in, unanswered_of, unanswered_entry};
 ghost use Rattle.conversation_rules.specs.Matching.{place_in, is_request_for};
 ghost use Rattle.conversation_rules.specs.Owed.{new_due, unreadable_due};
-ghost use Rattle.conversation_ids.specs.OwedMarks.{content_has, entry_has, due_has};
+ghost use Rattle.conversation_ids.specs.OwedMarks.{content_has, entry_has, due_has, uncancelled_has};
 ghost use Rattle.conversation_ids.specs.Ways.{fits};
 
 use crate::content_marks::{batch_mark, huge_mark, unreadable_mark};
@@ -102,6 +102,13 @@ impl Due {
         ensures { result ≡ due_has mark self.now }
     {
         self.has_content_mark(mark) || self.has_entry_mark(mark)
+    }
+
+    /// Whether a request is open on it whose cancel wasn't seen, by a mark of the id that its answer is expected to have.
+    pub fn has_uncancelled(&self, mark: u128) -> bool
+        ensures { result ≡ uncancelled_has mark self.now }
+    {
+        self.entries.iter().any(|owed| owed.is_uncancelled(mark))
     }
 
     fn has_entry_mark(&self, mark: u128) -> bool
@@ -207,6 +214,7 @@ impl Due {
             number: self.number,
             offset: self.offset,
             entry: owed.place(),
+            may_be_refused: self.is_batch || self.has_huge,
             may_be_answered: false,
         }
     }

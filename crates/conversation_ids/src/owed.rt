@@ -3,7 +3,7 @@ ghost use Rattle.std.specs.Option.{option_map_or};
 ghost use Rattle.conversation_reading.specs.declared.entry.WrittenId.TheVariants.{Null};
 ghost use Rattle.conversation_ids.specs.Marks.{mark_of, null_mark};
 ghost use Rattle.conversation_ids.specs.Inner.{expected_as};
-ghost use Rattle.conversation_ids.specs.OwedMarks.{has_mark, entry_has};
+ghost use Rattle.conversation_ids.specs.OwedMarks.{has_mark, entry_has, request_has};
 ghost use Rattle.conversation_rules.specs.Amounts.{is_odd, is_null};
 ghost use Rattle.conversation_rules.specs.Dues.{cancelled};
 ghost use Rattle.conversation_rules.specs.Matching.{is_request_for, expects_null, is_null_request, is_null_other, is_unnamed};
@@ -296,6 +296,13 @@ impl Owed {
     {
         let is_of_null = self.is_marked_null() && null_mark() == mark;
         is_mark(self.first_mark(), mark) || is_mark(self.own_mark(), mark) || is_of_null
+    }
+
+    /// Whether it is a request whose cancel wasn't seen, and its answer is expected to have an id of this mark.
+    pub fn is_uncancelled(&self, mark: u128) -> bool
+        ensures { result ≡ request_has mark self.now }
+    {
+        self.is_request && !self.is_cancelled && is_mark(self.expected_mark(), mark)
     }
 
     /// A cancel of this id was seen, which may settle that the request must be answered.

@@ -1,15 +1,16 @@
 //! A content: what it breaks, and what is kept of it.
 
-ghost use Rattle.std.specs.Prelude.{◌≡◌, ◌++◌, ℕ, length, Some, OnOk, IfOk, true};
+ghost use Rattle.std.specs.Prelude.{◌≡◌, ◌++◌, ℕ, List, Option, length, Some, OnOk, IfOk, true};
 ghost use Rattle.content_streams.specs.Streams.{capped};
 ghost use Rattle.conversation_entries.specs.Said.{said};
 ghost use Rattle.conversation_judge.specs.Said.{pair};
+ghost use Rattle.conversation_reading.specs.declared.entry.WrittenId.{WrittenId as WrittenIdValue};
 ghost use Rattle.conversation_reading.specs.declared.entry.WrittenId.TheVariants.{Null};
 ghost use Rattle.conversation_rules.specs.Contents as rules;
-ghost use Rattle.conversation_rules.specs.Contents.{sight_of, opened, shut, not_json_rule, unreadable, single_outcome, empty_outcome, batch_findings, entries_findings, behind_entries, counted_array, replies_in, reply_ids, array_outcome, behind_line_end, reading_outcome, content_outcome};
+ghost use Rattle.conversation_rules.specs.Contents.{sight_of, array_sight, guesses, opened, shut, not_json_rule, unreadable, single_outcome, empty_outcome, batch_findings, entries_findings, behind_entries, counted_array, replies_in, reply_ids, array_outcome, behind_line_end, reading_outcome, content_outcome};
 ghost use Rattle.conversation_rules.specs.Entries.{answer_id};
 ghost use Rattle.conversation_rules.specs.Protocols as protocols;
-ghost use Rattle.conversation_rules.specs.Speakers.{Speaker as SpeakerValue};
+ghost use Rattle.conversation_rules.specs.Speakers.{Speaker as SpeakerValue, is_broken};
 ghost use Rattle.lsp_frames.specs.declared.frame.Frame.{Frame as FrameValue};
 
 use crate::answers::{put_single, reply_of};
@@ -24,13 +25,45 @@ use lsp_frames::Frame;
 use std::alloc::{AllocError, Global};
 use std::collections::VecDeque;
 
+/// Whether what is owed can't be known: the judge reads the stream of either side no further, or had to guess.
+pub(crate) fn is_broken(own: &Speaker, other: &Speaker) -> bool
+    ensures { result ≡ is_broken (pair own.now other.now) }
+{
+    own.is_over || other.is_over || other.is_guessed
+}
+
 fn sight_of(own: &Speaker, other: &Speaker) -> Sight
     ensures { result ≡ sight_of (pair own.now other.now) }
 {
     Sight {
-        is_broken: own.is_over || other.is_over,
+        is_broken: is_broken(own, other),
         has_unreadable: other.has_unreadable,
         refusals: other.refusals,
+    }
+}
+
+/// With what an array is judged, where it may have to be guessed for which batch it is.
+fn array_sight(own: &Speaker, other: &Speaker, is_guess: bool) -> Sight
+    ensures { (ids : List (Option WrittenIdValue)) → is_guess ≡ guesses (said other.now) ids →
+        result ≡ array_sight (pair own.now other.now) ids }
+{
+    let sight = sight_of(own, other);
+    Sight {
+        is_broken: sight.is_broken || is_guess,
+        has_unreadable: sight.has_unreadable,
+        refusals: sight.refusals,
+    }
+}
+
+/// Whether it has to be guessed for which batch an array of answers with these ids is. Where no request may be left without an
+/// answer, an array is judged by what it fits.
+fn guesses(asker: &Speaker, ids: &[Option<WrittenId>]) -> Result<bool, AllocError>
+    ensures { IfOk result (λ b. b ≡ guesses (said asker.now) ids.now) }
+{
+    if asker.has_cancelled {
+        asker.owed.is_guess(ids)
+    } else {
+        Ok(false)
     }
 }
 
@@ -293,10 +326,11 @@ fn take_array(
     ensures pair { OnOk result (pair own.new other.new
         ≡ (array_outcome protocol message entries (pair own.old other.old)).pair) }
 {
-    let sight = sight_of(own, other);
     let are_alone = are_answers(entries.as_slice());
     let replies = replies_of(alloc, protocol, &other.owed, entries.as_slice())?;
     let ids = ids_of(alloc, entries.as_slice())?;
+    let is_guess = guesses(other, ids.as_slice())?;
+    let sight = array_sight(own, other, is_guess);
     put_batch(protocol, findings, message, entries.as_slice())?;
     let has_huge = have_huge(entries.as_slice());
     take_batch(
@@ -318,7 +352,9 @@ fn take_array(
         are_alone,
         replies.as_slice(),
         ids.as_slice(),
-    )
+    )?;
+    other.is_guessed = other.is_guessed || is_guess;
+    Ok(())
 }
 
 fn not_json_rule(is_unfinished: bool) -> Rule

@@ -1,14 +1,14 @@
 //! What a side wrote, and how it ended.
 
-ghost use Rattle.std.specs.Prelude.{◌≡◌, ◌++◌, ◌==◌, OnOk, IfOk, None, Some, is_some, map, true, if◌then◌else◌};
+ghost use Rattle.std.specs.Prelude.{◌≡◌, ◌++◌, OnOk, IfOk, None, Some, is_some, map};
 ghost use Rattle.content_streams.specs.Streams.{next_placed, close_of};
 ghost use Rattle.conversation_entries.specs.Said.{said};
 ghost use Rattle.conversation_judge.specs.Said.{pair, next_findings, behind_next, stream_behind_next, ended_as, state};
 ghost use Rattle.conversation_rules.specs.Judging as rules;
-ghost use Rattle.conversation_rules.specs.Judging.{contents_findings, behind_contents, new_contents, all_taken, fault_findings, fed, wrote_findings, behind_wrote, ended_stream, unanswered_findings, maybe_answered, may_be_refused, ended_findings, behind_ended};
+ghost use Rattle.conversation_rules.specs.Judging.{contents_findings, behind_contents, new_contents, all_taken, fault_findings, fed, wrote_findings, behind_wrote, ended_stream, unanswered_findings, maybe_answered, may_be_refused, when_refused, ended_findings, behind_ended};
 
 use crate::answers::or_note;
-use crate::contents::take_content;
+use crate::contents::{is_broken, take_content};
 use content_streams::{ContentStream, HowEnded, StreamEnd, placed_contents_are_the_contents};
 use conversation_entries::{Speaker, is_mcp, put_if};
 use conversation_reading::StrictReader;
@@ -215,7 +215,7 @@ fn unanswered_finding(side: Side, how: HowEnded, is_broken: bool, request: Unans
     }
 }
 
-/// As many contents as `asker` says may have been refused: those of the oldest requests count as such.
+/// As many contents as `asker` says may have been refused: of those that may be, the oldest count as such.
 fn put_each_unanswered(
     side: Side,
     how: HowEnded,
@@ -231,12 +231,12 @@ fn put_each_unanswered(
     let mut refused = asker.refusals.refused;
     let mut number = 0;
     for request in requests {
-        if refused > 0 && request.number != number {
+        if counts_as_refused(*request, refused, number) {
             refused -= 1;
             number = request.number;
         }
         let request = maybe_answered(*request, asker.unsure_up_to);
-        let request = may_be_refused(request, number);
+        let request = when_refused(request, number);
         findings.push(unanswered_finding(side, how, is_broken, request))?;
     }
     Ok(())
@@ -252,9 +252,16 @@ fn maybe_answered(request: Unanswered, unsure_up_to: u64) -> Unanswered
     }
 }
 
+/// One of so many errors may have refused its content, which isn't the last that counts as refused.
+fn counts_as_refused(request: Unanswered, refused: u64, number: u64) -> bool
+    ensures { result ≡ rules.counts_as_refused refused number request }
+{
+    request.may_be_refused && refused > 0 && request.number != number
+}
+
 /// A request of the content with this number may have been refused.
-fn may_be_refused(request: Unanswered, number: u64) -> Unanswered
-    ensures { result ≡ (if request.number == number then record request { may_be_answered = true } else request) }
+fn when_refused(request: Unanswered, number: u64) -> Unanswered
+    ensures { result ≡ when_refused number request }
 {
     Unanswered {
         may_be_answered: request.may_be_answered || request.number == number,
@@ -288,7 +295,7 @@ fn put_unanswered(
         return Ok(());
     }
     let requests = other.owed.unanswered()?;
-    let is_broken = own.is_over || other.is_over;
+    let is_broken = is_broken(own, other);
     put_each_unanswered(side, how, is_broken, findings, other, requests.as_slice())
 }
 

@@ -1,10 +1,12 @@
 -- Contents on which something is owed, by numbers that ascend, and their index.
-use Rattle.std.specs.Prelude.{ℕ, suc, ◌≡◌, ◌<◌, ◌≤◌, ◌==◌, ◌++◌, nat_lt, nat_le, length, remove, List, [], ◌∷◌, map, filter, Bool, true, false, Option, Some, None, if◌then◌else◌}
+use Rattle.std.specs.Prelude.{ℕ, suc, ◌≡◌, ◌<◌, ◌≤◌, ◌==◌, ◌&&◌, ◌++◌, not, nat_lt, nat_le, length, remove, List, [], ◌∷◌, map, filter, Bool, true, false, Option, Some, None, if◌then◌else◌}
 use Rattle.std.specs.Option.{option_map_or}
 use Rattle.conversation_open.specs.Marked.{has_number}
-use Rattle.conversation_open.specs.declared.numbers_by_mark.NumbersByMark.{NumbersByMark}
+use Rattle.conversation_open.specs.declared.among.Among.{Among}
+use Rattle.conversation_open.specs.declared.among.Among.TheVariants.{Singles, Batches, All}
+use Rattle.conversation_open.specs.declared.index.Index.{Index}
 use Rattle.conversation_open.specs.declared.open_contents.OpenContents.{OpenContents}
-use Rattle.conversation_ids.specs.OwedMarks.{due_has}
+use Rattle.conversation_ids.specs.OwedMarks.{due_has, uncancelled_has}
 use Rattle.conversation_rules.specs.Dues.{is_open, unanswered_of}
 use Rattle.conversation_rules.specs.Owed.{Owed, Due}
 use Rattle.conversation_rules.specs.declared.found.Unanswered.{Unanswered}
@@ -18,23 +20,42 @@ open_entries contents = window_entries contents.dues
 abbrev pub contents_of : List (ℕ × Due) → List Due
 contents_of entries = map (λ entry. entry.1) entries
 
--- each content stands in the index by its marks
-abbrev pub IsIndexed : NumbersByMark → List (ℕ × Due) → Type 0
-IsIndexed index entries = (number : ℕ) (due : Due) → at number entries ≡ Some due → (mark : ℕ) → due_has mark due ≡ true → has_number index mark number ≡ true
+-- a content stands in the index by its marks
+pub record IsFound (index : Index) (number : ℕ) (due : Due) : Type 0 where
+  pub single : due.is_batch ≡ false → (mark : ℕ) → due_has mark due ≡ true → has_number index.singles mark number ≡ true
+  pub batch : due.is_batch ≡ true → (mark : ℕ) → due_has mark due ≡ true → has_number index.batches mark number ≡ true
+  pub uncancelled : (mark : ℕ) → uncancelled_has mark due ≡ true → has_number index.uncancelled mark number ≡ true
+
+-- each does
+abbrev pub IsIndexed : Index → List (ℕ × Due) → Type 0
+IsIndexed index entries = (number : ℕ) (due : Due) → at number entries ≡ Some due → IsFound index number due
+
+-- it is one of these, and has the mark
+abbrev pub among_has : Among → ℕ → Due → Bool
+among_has Singles mark due = not due.is_batch && due_has mark due
+among_has Batches mark due = due.is_batch && due_has mark due
+among_has All mark due = due_has mark due
 
 -- numbers begin with 1 and ascend, and none is above the last that was given
 pub record IsOpen (contents : OpenContents) : Type 0 where
   pub window : IsWindow contents.dues
   pub above : Above 0 (open_entries contents)
   pub below : Below (suc contents.last) (open_entries contents)
-  pub indexed : IsIndexed contents.marks (open_entries contents)
+  pub indexed : IsIndexed contents.index (open_entries contents)
 
--- no content with this mark stands behind a number, up to another one
-abbrev pub IsNoneBetween : ℕ → ℕ → ℕ → List (ℕ × Due) → Type 0
-IsNoneBetween mark after number entries = (n : ℕ) (due : Due) → after < n → n < number → at n entries ≡ Some due → due_has mark due ≡ false
+-- no such content stands behind a number, up to another one
+abbrev pub IsNoneBetween : (Due → Bool) → ℕ → ℕ → List (ℕ × Due) → Type 0
+IsNoneBetween is_one after number entries = (n : ℕ) (due : Due) → after < n → n < number → at n entries ≡ Some due → is_one due ≡ false
 
-abbrev pub IsNoneBehind : ℕ → ℕ → List (ℕ × Due) → Type 0
-IsNoneBehind mark after entries = (n : ℕ) (due : Due) → after < n → at n entries ≡ Some due → due_has mark due ≡ false
+abbrev pub IsNoneBehind : (Due → Bool) → ℕ → List (ℕ × Due) → Type 0
+IsNoneBehind is_one after entries = (n : ℕ) (due : Due) → after < n → at n entries ≡ Some due → is_one due ≡ false
+
+-- all of them stay what they are by a change
+abbrev pub AreFixedBetween : (Due → Due) → ℕ → ℕ → List (ℕ × Due) → Type 0
+AreFixedBetween change after number entries = (n : ℕ) (due : Due) → after < n → n < number → at n entries ≡ Some due → change due ≡ due
+
+abbrev pub AreFixedBehind : (Due → Due) → ℕ → List (ℕ × Due) → Type 0
+AreFixedBehind change after entries = (n : ℕ) (due : Due) → after < n → at n entries ≡ Some due → change due ≡ due
 
 -- the number of the content that came last
 abbrev pub last_number : List (ℕ × Due) → Option ℕ

@@ -1,13 +1,13 @@
-ghost use Rattle.std.specs.Prelude.{◌≡◌, ◌<◌, ◌++◌, ◌∷◌, [], map, length, true, false, is_some, OnOk, OnErr, MatchOption, option_and_then, option_copied};
+ghost use Rattle.std.specs.Prelude.{◌≡◌, ◌<◌, ◌++◌, ◌∷◌, [], map, length, true, false, Some, is_some, OnOk, OnErr, MatchOption, option_and_then, option_copied};
 ghost use Rattle.std.specs.Option.{option_map_or};
-ghost use Rattle.conversation_open.specs.Open.{open_entries, contents_of, IsOpen, IsNoneBetween, IsNoneBehind, last_number, is_open_at, is_empty, settled_at, and_removed, unanswered_at};
+ghost use Rattle.conversation_open.specs.Open.{open_entries, contents_of, among_has, AreFixedBetween, AreFixedBehind, IsOpen, IsNoneBetween, IsNoneBehind, last_number, is_open_at, is_empty, settled_at, and_removed, unanswered_at};
 ghost use Rattle.conversation_rules.specs.Dues.{owed_more, closed, cancelled_in, fit_in, unanswered};
-ghost use Rattle.conversation_rules.specs.Owed.{new_due, unreadable_due};
+ghost use Rattle.conversation_rules.specs.Owed.{Due as DueValue, new_due, unreadable_due};
 ghost use Rattle.number_windows.specs.Numbered.{at, without, changed_at};
 
+use crate::among::Among;
 use crate::in_window::{cancel_at, push_at, take_at};
-use crate::marking::{forget_content, forget_entry, note_content, note_entry};
-use crate::numbers_by_mark::NumbersByMark;
+use crate::index::Index;
 use conversation_ids::{Due, Owed, mark_of};
 use conversation_reading::WrittenId;
 use conversation_rules::{Fit, Unanswered};
@@ -20,7 +20,7 @@ use std::alloc::{AllocError, Global};
 pub struct OpenContents {
     alloc: Global,
     dues: NumberWindow<Due>,
-    marks: NumbersByMark,
+    index: Index,
     /// No number is greater.
     last: u64,
 }
@@ -34,7 +34,7 @@ impl OpenContents {
         OpenContents {
             alloc,
             dues: NumberWindow::new(alloc),
-            marks: NumbersByMark::new(alloc),
+            index: Index::new(alloc),
             last: 0,
         }
     }
@@ -55,14 +55,15 @@ impl OpenContents {
         self.dues.get(number)
     }
 
-    /// The least number behind `after` under a mark. Each content with this mark stands there; others may as well.
-    pub fn next_with(&self, mark: u128, after: u64) -> Option<u64>
+    /// The least number behind `after` under a mark, among such contents. Each of these with this mark stands there; others may
+    /// as well.
+    pub fn next_with(&self, among: Among, mark: u128, after: u64) -> Option<u64>
         requires { IsOpen self.now }
         ensures { MatchOption result
-            (IsNoneBehind mark after (open_entries self.now))
-            (λ number. (after < number) × IsNoneBetween mark after number (open_entries self.now)) }
+            (IsNoneBehind (among_has among mark) after (open_entries self.now))
+            (λ number. (after < number) × IsNoneBetween (among_has among mark) after number (open_entries self.now)) }
     {
-        self.marks.next(mark, after)
+        self.index.next(among, mark, after)
     }
 
     /// Begins a content. Nothing is owed on it yet.
@@ -108,7 +109,7 @@ impl OpenContents {
             None => return Err(AllocError),
         };
         self.dues.make_room()?;
-        note_content(&mut self.marks, &due, number)?;
+        self.index.note_content(&due, number)?;
         self.dues.push(number, due);
         self.last = number;
         Ok(())
@@ -125,7 +126,8 @@ impl OpenContents {
             Some(number) => number,
             None => return Ok(()),
         };
-        note_entry(&mut self.marks, &owed, number)?;
+        let is_batch = self.is_batch_at(number);
+        self.index.note_entry(is_batch, &owed, number)?;
         push_at(self.alloc, &mut self.dues, number, owed)
     }
 
@@ -148,11 +150,25 @@ impl OpenContents {
         ensures entries { contents_of (open_entries self.new) ≡ map (cancelled_in settles id.now) (contents_of (open_entries self.old)) }
         ensures stands { IsOpen self.new }
     {
-        let mark = mark_of(id);
         let mut after = 0;
-        while let Some(number) = self.next_with(mark, after) {
+        while let Some(number) = self.next_to_cancel(id, settles, after) {
             self.cancel_in(number, id, settles);
             after = number;
+        }
+    }
+
+    /// The next content that a cancel may change. One that settles may change what another one left.
+    fn next_to_cancel(&self, id: &WrittenId, settles: bool, after: u64) -> Option<u64>
+        requires { IsOpen self.now }
+        ensures { MatchOption result
+            (AreFixedBehind (cancelled_in settles id.now) after (open_entries self.now))
+            (λ number. (after < number) × AreFixedBetween (cancelled_in settles id.now) after number (open_entries self.now)) }
+    {
+        let mark = mark_of(id);
+        if settles {
+            self.next_with(Among::All, mark, after)
+        } else {
+            self.index.next_uncancelled(mark, after)
         }
     }
 
@@ -162,6 +178,18 @@ impl OpenContents {
         ensures stands { IsOpen self.new }
     {
         cancel_at(self.alloc, &mut self.dues, number, id, settles);
+        self.forget_cancelled(number, mark_of(id));
+    }
+
+    /// Forgets that requests of this mark weren't cancelled, where none is left.
+    fn forget_cancelled(&mut self, number: u64, mark: u128)
+        requires { IsOpen self.old }
+        ensures entries { open_entries self.new ≡ open_entries self.old }
+        ensures stands { IsOpen self.new }
+    {
+        if let Some(due) = self.dues.get(number) {
+            self.index.forget_cancelled(mark, due, number);
+        }
     }
 
     /// Takes an entry off a content, which is forgotten where that was its last, and tells of it.
@@ -186,7 +214,7 @@ impl OpenContents {
         ensures stands { IsOpen self.new }
     {
         if let Some(due) = self.dues.remove(number) {
-            forget_content(&mut self.marks, &due, number);
+            self.index.forget_content(&due, number);
         }
     }
 
@@ -241,6 +269,16 @@ impl OpenContents {
         }
     }
 
+    fn is_batch_at(&self, number: u64) -> bool
+        requires { IsOpen self.now }
+        ensures { (due : DueValue) → at number (open_entries self.now) ≡ Some due → result ≡ due.is_batch }
+    {
+        match self.dues.get(number) {
+            Some(due) => due.is_batch(),
+            None => false,
+        }
+    }
+
     fn is_open_at(&self, number: u64) -> bool
         requires { IsOpen self.now }
         ensures { result ≡ is_open_at number (open_entries self.now) }
@@ -289,7 +327,7 @@ impl OpenContents {
         ensures stands { IsOpen self.new }
     {
         if let Some(due) = self.dues.get(number) {
-            forget_entry(&mut self.marks, owed, due, number);
+            self.index.forget_entry(owed, due, number);
         }
     }
 }

@@ -18,7 +18,7 @@ abbrev pub id : List ℕ → List ℕ × Json
 id digits = (codes "id", number digits)
 
 abbrev pub outcome : List ℕ × Json
-outcome = (codes "result", number (codes "1"))
+outcome = (codes "result", object no_members)
 
 -- an error with this code
 abbrev pub failure : List ℕ → List ℕ × Json

@@ -66,6 +66,13 @@ abbrev pub is_null_value : Json → Bool
 is_null_value null = true
 is_null_value _ = false
 
+abbrev pub is_array : Json → Bool
+is_array (array js) = true
+is_array _ = false
+
+abbrev pub is_bare : Json → Bool
+is_bare j = not (is_object j)
+
 -- section 5.1: an error has a whole number as its code, and a string as its message
 abbrev pub code_in : Json → Option (List ℕ)
 code_in error = option_and_then as_number (get (codes "code") error)
@@ -148,7 +155,7 @@ abbrev pub kind_in : Json → Kind
 kind_in j = kind_of (there_in j) (has_fault (faults_of j)) (has_twice j)
 
 abbrev pub entry_of : Json → Entry
-entry_of j = record { kind = kind_in j; there = there_in j; faults = faults_of j; id = id_in j; method = method_in j; null_params = option_map_or is_null_value (get (codes "params") j) false; code = option_and_then code_in (get (codes "error") j); target = target_in j; cancels_none = cancels_none (method_in j) (get (codes "params") j); first = first_in j; has_huge = has_huge j || (has_twice j || is_deep_request (kind_in j) j) }
+entry_of j = record { kind = kind_in j; there = there_in j; faults = faults_of j; id = id_in j; method = method_in j; null_params = option_map_or is_null_value (get (codes "params") j) false; array_params = option_map_or is_array (get (codes "params") j) false; bare_result = option_map_or is_bare (get (codes "result") j) false; code = option_and_then code_in (get (codes "error") j); target = target_in j; cancels_none = cancels_none (method_in j) (get (codes "params") j); first = first_in j; has_huge = has_huge j || (has_twice j || is_deep_request (kind_in j) j) }
 
 abbrev pub entries_of : Items → List Entry
 entries_of no_items = []

@@ -63,6 +63,10 @@ pub struct Entry {
     pub method: Option<Text>,
     /// Whether it has params, and they are null.
     pub null_params: bool,
+    /// Whether it has params, and they are an array.
+    pub array_params: bool,
+    /// Whether it has a result, and that is no object.
+    pub bare_result: bool,
     /// The code of its error, where that is a number, with each digit that it has.
     pub code: Option<Text>,
     /// The id that it cancels by its method, whatever kind it is: of `$/cancelRequest` (LSP) the `id` of its params, and of

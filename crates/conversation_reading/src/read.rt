@@ -9,7 +9,7 @@ ghost use Rattle.conversation_reading.specs.Huge.{has_huge};
 ghost use Rattle.conversation_reading.specs.Nesting.{is_deep_request};
 ghost use Rattle.conversation_reading.specs.Inner.{AreMembers};
 ghost use Rattle.conversation_reading.specs.Numbers.{is_whole};
-ghost use Rattle.conversation_reading.specs.Strictly.{there_in, is_object, written_id, are_unfit, code_in, is_error, is_unfit_error, call_faults, answer_faults, faults_of, has_fault, is_null_value, first_by, kind_of, entry_of, entries_of};
+ghost use Rattle.conversation_reading.specs.Strictly.{there_in, is_object, written_id, are_unfit, code_in, is_error, is_unfit_error, call_faults, answer_faults, faults_of, has_fault, is_null_value, is_array, is_bare, first_by, kind_of, entry_of, entries_of};
 
 use crate::entry::{Entry, Faults, Kind, There, WrittenId};
 use crate::first::First;
@@ -48,6 +48,8 @@ pub(crate) fn read_entry(alloc: Global, value: &Value<'_>) -> Result<Entry, Allo
         id: read_id(alloc, members.id)?,
         method: copied(alloc, text_in(members.method))?,
         null_params: is_null(members.params),
+        array_params: is_array(members.params),
+        bare_result: is_bare(members.result),
         code: copied(alloc, code_among(members.error))?,
         target: read_target(alloc, members.method, members.params)?,
         cancels_none: cancels_none(members.method, members.params),
@@ -296,5 +298,25 @@ fn is_null(member: Option<&Value<'_>>) -> bool
     match member {
         Some(Value::Null) => true,
         _ => false,
+    }
+}
+
+/// Whether a member is there, and is an array.
+fn is_array(member: Option<&Value<'_>>) -> bool
+    ensures { result ≡ option_map_or is_array (option_map (λ v. value_view v.now) member.entry) false }
+{
+    match member {
+        Some(Value::Array(_)) => true,
+        _ => false,
+    }
+}
+
+/// Whether a member is there, and is no object.
+fn is_bare(member: Option<&Value<'_>>) -> bool
+    ensures { result ≡ option_map_or is_bare (option_map (λ v. value_view v.now) member.entry) false }
+{
+    match member {
+        Some(value) => !is_object(value),
+        None => false,
     }
 }

@@ -12,11 +12,12 @@ use Rattle.conversation_reading.specs.declared.reading.Reading.TheVariants.{Fore
 use Rattle.conversation_rules.specs.declared.reply.Reply.{Reply}
 use Rattle.conversation_rules.specs.declared.reply.Sight.{Sight}
 use Rattle.conversation_rules.specs.Answers.{reply_of, single_findings, refused_behind_single, behind_single, answers_findings, behind_answers}
-use Rattle.conversation_rules.specs.Dues.{closed, owed_more}
+use Rattle.conversation_rules.specs.Dues.{closed, owed_more, ids_read}
 use Rattle.conversation_rules.specs.Entries.{is_answer, answer_id, entry_findings, behind_entry}
+use Rattle.conversation_rules.specs.Matching.{is_guess}
 use Rattle.conversation_rules.specs.Owed.{Due, new_due, unreadable_due, empty_array_owed}
 use Rattle.conversation_rules.specs.Protocols.{batch_level}
-use Rattle.conversation_rules.specs.Speakers.{Speaker, Pair, found, found_if, one_more}
+use Rattle.conversation_rules.specs.Speakers.{Speaker, Pair, found, found_if, is_broken, one_more}
 use Rattle.conversation_rules.specs.declared.finding.Finding.{Finding}
 use Rattle.conversation_rules.specs.declared.finding.Message.{Message}
 use Rattle.conversation_rules.specs.declared.finding.Rule.{Rule}
@@ -49,7 +50,7 @@ unreadable message pair rule level = record { findings = found message 0 rule le
 -- ---- a content that is read
 
 abbrev pub sight_of : Pair → Sight
-sight_of pair = record { is_broken = pair.own.is_over || pair.other.is_over; has_unreadable = pair.other.has_unreadable; refusals = pair.other.refusals }
+sight_of pair = record { is_broken = is_broken pair; has_unreadable = pair.other.has_unreadable; refusals = pair.other.refusals }
 
 -- what is owed on it stands last, and is added to entry by entry
 abbrev pub opened : Message → Bool → Bool → Speaker → Speaker
@@ -123,17 +124,30 @@ have_huge entries = list_any (λ entry. entry.has_huge) entries
 abbrev pub counted_array : Speaker → Speaker → Speaker
 counted_array own after = record after { refusals = if length after.owed == length own.owed then record after.refusals { unowed = one_more after.refusals.unowed } else after.refusals }
 
+-- The answers of an array. Behind a cancel by which a request may be left, an array may have less than its batch expects, and
+-- ids may be used again: where it has to be guessed for which batch it is, what is open isn't known from then on.
+abbrev pub guesses : Speaker → List (Option WrittenId) → Bool
+guesses asker ids = asker.has_cancelled && is_guess (ids_read ids) asker.owed
+
+abbrev pub array_sight : Pair → List (Option WrittenId) → Sight
+array_sight pair ids = let sight = sight_of pair in record sight { is_broken = sight.is_broken || guesses pair.other ids }
+
+abbrev pub array_answer_findings : Protocol → Message → List Entry → Pair → List Finding
+array_answer_findings protocol message entries pair =
+    answers_findings protocol (array_sight pair (reply_ids entries)) message (are_answers entries) (replies_in protocol pair.other.owed 1 entries) (reply_ids entries) pair.other.owed
+
+abbrev pub array_other : Protocol → Message → List Entry → Pair → Speaker
+array_other protocol message entries pair = record pair.other {
+  owed = behind_answers protocol (array_sight pair (reply_ids entries)) message (replies_in protocol pair.other.owed 1 entries) (reply_ids entries) pair.other.owed;
+  is_guessed = pair.other.is_guessed || guesses pair.other (reply_ids entries);
+}
+
 abbrev pub array_outcome : Protocol → Message → List Entry → Pair → Outcome
 array_outcome protocol message entries pair =
     let own = opened message true (have_huge entries) pair.own in
-    let replies = replies_in protocol pair.other.owed 1 entries in
     record {
-      findings = batch_findings protocol message entries ++ entries_findings protocol message 1 entries own
-          ++ answers_findings protocol (sight_of pair) message (are_answers entries) replies (reply_ids entries) pair.other.owed;
-      pair = record {
-        own = counted_array pair.own (shut (behind_entries protocol 1 entries own));
-        other = record pair.other { owed = behind_answers protocol (sight_of pair) message replies (reply_ids entries) pair.other.owed };
-      };
+      findings = batch_findings protocol message entries ++ entries_findings protocol message 1 entries own ++ array_answer_findings protocol message entries pair;
+      pair = record { own = counted_array pair.own (shut (behind_entries protocol 1 entries own)); other = array_other protocol message entries pair };
     }
 
 -- ---- line-end: a last line without its LF that is JSON is read

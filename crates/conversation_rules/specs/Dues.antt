@@ -132,7 +132,7 @@ settled_batch (Some content) dues = remove dues content
 
 -- a request that must be answered, and isn't
 abbrev pub unanswered_entry : Due → Owed → Unanswered
-unanswered_entry due owed = record { number = due.number; offset = due.offset; entry = owed.place; may_be_answered = false }
+unanswered_entry due owed = record { number = due.number; offset = due.offset; entry = owed.place; may_be_refused = due.is_batch || due.has_huge; may_be_answered = false }
 
 abbrev pub unanswered_of : Due → List Owed → List Unanswered
 unanswered_of due [] = []

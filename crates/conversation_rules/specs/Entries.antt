@@ -172,6 +172,20 @@ owed_after_first protocol (Some first) owed = if is_first_cancel protocol first 
 abbrev pub owed_after_cancel : Protocol → Entry → List Due → List Due
 owed_after_cancel protocol entry owed = owed_after_first protocol entry.first (owed_after_last protocol entry owed)
 
+-- a cancel by rules where its request may be left without an answer
+abbrev pub may_leave : Protocol → Entry → Bool
+may_leave protocol entry = is_mcp protocol && (is_cancel protocol entry || option_map_or (is_first_cancel protocol) entry.first false)
+
+-- ---- params-object, result-object: MCP, messages. The params of a cancel have a rule of their own.
+
+abbrev pub has_array_params : Protocol → Entry → Bool
+has_array_params protocol entry = (is_request entry.kind || is_notification entry.kind) && (entry.array_params && not (is_cancel protocol entry))
+
+abbrev pub object_findings : Protocol → Message → ℕ → Entry → List Finding
+object_findings protocol message at entry =
+    found_if (is_mcp protocol && has_array_params protocol entry) (found message at rules.ParamsObject Must)
+    ++ found_if (is_mcp protocol && (is_well entry.kind && entry.bare_result)) (found message at rules.ResultObject Must)
+
 -- ---- id-null, id-fraction, id-form, id-again: JSON-RPC 2.0, sections 4 and 6; LSP, Request Message; MCP, messages
 
 abbrev pub number_findings : Protocol → Message → ℕ → List ℕ → List Finding
@@ -219,7 +233,7 @@ with_id_of protocol entry own = record own {
 -- ---- all of an entry
 
 abbrev pub part_findings : Protocol → Message → ℕ → Entry → List Finding
-part_findings protocol message at entry = fault_findings protocol message at entry.there entry.faults ++ both_findings message at entry ++ twice_findings message at entry ++ code_findings protocol message at entry ++ name_findings message at entry
+part_findings protocol message at entry = fault_findings protocol message at entry.there entry.faults ++ both_findings message at entry ++ twice_findings message at entry ++ code_findings protocol message at entry ++ name_findings message at entry ++ object_findings protocol message at entry
 
 abbrev pub plain_findings : Protocol → Message → Bool → ℕ → Entry → Speaker → List Finding
 plain_findings protocol message in_batch at entry own = part_findings protocol message at entry ++ cancel_findings protocol message at own entry ++ id_findings protocol message at in_batch own entry
@@ -233,7 +247,7 @@ is_exit protocol entry = is_lsp protocol && ((is_notification entry.kind && has_
 
 -- what a notification says beside
 abbrev pub with_notification : Protocol → Entry → Speaker → Speaker
-with_notification protocol entry own = record own { owed = owed_after_cancel protocol entry own.owed; has_exited = own.has_exited || is_exit protocol entry }
+with_notification protocol entry own = record own { owed = owed_after_cancel protocol entry own.owed; has_cancelled = own.has_cancelled || may_leave protocol entry; has_exited = own.has_exited || is_exit protocol entry }
 
 -- what the other side owes on it
 abbrev pub with_owed : Protocol → ℕ → Entry → Speaker → Speaker

@@ -1,5 +1,5 @@
 -- What is found in what was seen of two sides.
-use Rattle.std.specs.Prelude.{ℕ, zero, suc, ◌||◌, ◌==◌, nat_le, List, [], ◌∷◌, ◌++◌, map, drop, max, length, Bool, true, false, Option, Some, None, is_some, if◌then◌else◌}
+use Rattle.std.specs.Prelude.{ℕ, ◌-◌, ◌||◌, ◌&&◌, ◌==◌, not, nat_le, List, [], ◌∷◌, ◌++◌, map, drop, max, length, Bool, true, false, Option, Some, None, is_some, if◌then◌else◌}
 use Rattle.std.specs.Option.{option_map_or}
 use Rattle.lsp_frames.specs.declared.frame.Frame.{Frame}
 use Rattle.lsp_frames.specs.declared.frame.FrameFault.{FrameFault}
@@ -14,7 +14,7 @@ use Rattle.conversation_rules.specs.Answers.{or_note}
 use Rattle.conversation_rules.specs.Contents.{Outcome, content_outcome, next_message}
 use Rattle.conversation_rules.specs.Dues.{unanswered}
 use Rattle.conversation_rules.specs.Protocols.{is_mcp}
-use Rattle.conversation_rules.specs.Speakers.{Speaker, Pair, new_speaker, none_refused, found}
+use Rattle.conversation_rules.specs.Speakers.{Speaker, Pair, new_speaker, none_refused, found, is_broken}
 use Rattle.conversation_rules.specs.declared.finding.Finding.{Finding}
 use Rattle.conversation_rules.specs.declared.finding.Limits.{Limits}
 use Rattle.conversation_rules.specs.declared.finding.Rule.{Rule}
@@ -162,22 +162,25 @@ is_excused protocol side pair = pair.other.has_ended || (pair.other.has_exited |
 abbrev pub maybe_answered : ℕ → Unanswered → Unanswered
 maybe_answered unsure_up_to request = record request { may_be_answered = nat_le request.number unsure_up_to }
 
--- Which of them may have been refused isn't known: those of the oldest contents count as such, one content for each error.
--- What is left of a content stands side by side, and `number` is that of the last one that counts.
+-- Which of them may have been refused isn't known: of what may be refused whole, those of the oldest contents count as such, one
+-- content for each error. What is left of a content stands side by side, and `number` is that of the last one that counts.
+abbrev pub counts_as_refused : ℕ → ℕ → Unanswered → Bool
+counts_as_refused refused number request = request.may_be_refused && (not (refused == 0) && not (request.number == number))
+
+abbrev pub when_refused : ℕ → Unanswered → Unanswered
+when_refused number request = if request.number == number then record request { may_be_answered = true } else request
+
 abbrev pub may_be_refused : ℕ → ℕ → List Unanswered → List Unanswered
 may_be_refused refused number [] = []
 may_be_refused refused number (request ∷ requests) =
-    if request.number == number then record request { may_be_answered = true } ∷ may_be_refused refused number requests
-    else (elim refused [
-      | zero ↦ request ∷ may_be_refused zero number requests
-      | suc others ↦ record request { may_be_answered = true } ∷ may_be_refused others request.number requests
-    ])
+    if counts_as_refused refused number request then when_refused request.number request ∷ may_be_refused (refused - 1) request.number requests
+    else when_refused number request ∷ may_be_refused refused number requests
 
 abbrev pub left_unanswered : Speaker → List Unanswered
 left_unanswered asker = may_be_refused asker.refusals.refused 0 (map (maybe_answered asker.unsure_up_to) (unanswered asker.owed))
 
 abbrev pub unanswered_findings : Protocol → Side → HowEnded → Pair → List Finding
-unanswered_findings protocol side how pair = if is_excused protocol side pair then [] else map (unanswered_finding side how (pair.own.is_over || pair.other.is_over)) (left_unanswered pair.other)
+unanswered_findings protocol side how pair = if is_excused protocol side pair then [] else map (unanswered_finding side how (is_broken pair)) (left_unanswered pair.other)
 
 abbrev pub ended_findings : Protocol → Side → HowEnded → Stream → Pair → List Finding
 ended_findings protocol side how stream pair =

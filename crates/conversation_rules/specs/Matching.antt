@@ -94,6 +94,11 @@ expected_ids due = filter_map (λ owed. owed.expected) due.entries
 abbrev pub is_just : List WrittenId → Due → Bool
 is_just ids due = due.is_batch && same_ids ids (expected_ids due)
 
+-- It has to be guessed for which batch an array with these ids is: just these are expected from none that is open.
+abbrev pub is_guess : List WrittenId → List Due → Bool
+is_guess [] dues = false
+is_guess (id ∷ ids) dues = list_any (λ due. due.is_batch) dues && not (list_any (is_just (id ∷ ids)) dues)
+
 -- the entry that an answer with this id takes of a batch: a request that must be answered, then one that expects it, then one
 -- that may have it
 abbrev pub taken_by : WrittenId → List Owed → Option ℕ

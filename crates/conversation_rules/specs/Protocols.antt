@@ -14,15 +14,6 @@ batch_level Mcp20250618 = Some Must
 batch_level Mcp20250326 = None
 batch_level Mcp20241105 = Some Note
 
--- whether an error may refuse a whole batch: where the rules have none
-abbrev pub has_batches : Protocol → Bool
-has_batches JsonRpc = true
-has_batches Lsp = false
-has_batches Mcp = false
-has_batches Mcp20250618 = false
-has_batches Mcp20250326 = true
-has_batches Mcp20241105 = false
-
 -- how bad an id is that is null or has a fraction (JSON-RPC 4; LSP, Request Message; MCP, messages)
 abbrev pub odd_id_level : Protocol → Level
 odd_id_level JsonRpc = Should

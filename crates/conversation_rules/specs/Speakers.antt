@@ -1,5 +1,5 @@
 -- What is kept of a side.
-use Rattle.std.specs.Prelude.{ℕ, ◌+◌, ◌-◌, ◌^◌, ◌==◌, List, [], Bool, true, false, ◌∷◌, if◌then◌else◌}
+use Rattle.std.specs.Prelude.{ℕ, ◌+◌, ◌-◌, ◌^◌, ◌==◌, ◌||◌, List, [], Bool, true, false, ◌∷◌, if◌then◌else◌}
 use Rattle.content_streams.specs.Streams.{capped}
 use Rattle.conversation_rules.specs.Owed.{Due}
 use Rattle.conversation_rules.specs.Used.{Used, none_used}
@@ -22,6 +22,10 @@ pub record Speaker : Type 0 where
   -- the ids that its requests had, and those of `initialize`
   pub used : Used
   pub initialize : Used
+  -- whether it sent a cancel by rules where a request whose cancel was seen may be left
+  pub has_cancelled : Bool
+  -- whether it had to be guessed for which of its batches an array was
+  pub is_guessed : Bool
   -- whether it sent the notification `exit` of LSP
   pub has_exited : Bool
   -- whether a content of it couldn't be read
@@ -41,12 +45,16 @@ abbrev pub one_less : ℕ → ℕ
 one_less count = if count == 2 ^ 64 - 1 then count else count - 1
 
 abbrev pub new_speaker : ℕ → Speaker
-new_speaker most = record { count = 0; owed = []; unsure_up_to = 0; refusals = none_refused; used = none_used most; initialize = none_used most; has_exited = false; has_unreadable = false; is_over = false; has_ended = false }
+new_speaker most = record { count = 0; owed = []; unsure_up_to = 0; refusals = none_refused; used = none_used most; initialize = none_used most; has_cancelled = false; is_guessed = false; has_exited = false; has_unreadable = false; is_over = false; has_ended = false }
 
 -- the side that is seen, and the other one
 pub record Pair : Type 0 where
   pub own : Speaker
   pub other : Speaker
+
+-- What is owed can't be known: the judge reads the stream of either side no further, or had to guess.
+abbrev pub is_broken : Pair → Bool
+is_broken pair = pair.own.is_over || (pair.other.is_over || pair.other.is_guessed)
 
 -- a finding of an entry of a content, or of the whole of it
 abbrev pub found : Message → ℕ → Rule → Level → Finding

@@ -33,6 +33,8 @@ pub enum Rule {
     CancelUnknown,
     CancelInitialize,
     AfterCancel,
+    ParamsObject,
+    ResultObject,
     Unanswered,
     /// No rule: the judge can't tell, or can't go on.
     NotJudged,

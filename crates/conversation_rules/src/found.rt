@@ -35,6 +35,8 @@ pub struct Unanswered {
     pub offset: u64,
     /// Its place in its array, from 1, or 0.
     pub entry: u64,
+    /// Its content may be refused whole: it is a batch, or a reader may limit it.
+    pub may_be_refused: bool,
     /// A content that couldn't be read came behind it, and may have been its answer; or an error with the id null may have
     /// refused it.
     pub may_be_answered: bool,

@@ -22,7 +22,8 @@ pub use protocol::Protocol;
 pub use reply::{Refusals, Reply, Sight, Stray};
 pub use side::Side;
 pub use worked::{
-    answers_in_arrays, answers_that_are_owed, answers_that_may_come, cancels,
-    contents_that_are_refused, ends_of_sides, good_json, ids_of_requests, ids_that_are_left_out,
-    members_that_stand_twice, names_and_codes, requests_that_are_answers,
+    answers_in_arrays, answers_that_are_owed, answers_that_may_come, arrays_behind_a_cancel,
+    cancels, contents_that_are_refused, ends_of_sides, good_json, ids_of_requests,
+    ids_that_are_left_out, members_that_stand_twice, names_and_codes, params_and_results_of_mcp,
+    requests_that_are_answers,
 };

@@ -28,7 +28,8 @@ pub struct Stray {
 /// What an answer is judged with.
 #[derive(Debug, Clone, Copy, PartialEq, Eq)]
 pub struct Sight {
-    /// Whether the judge reads the stream of either side no further.
+    /// Whether what is owed can't be known: the judge reads the stream of either side no further, or had to guess for which
+    /// batch an array was.
     pub is_broken: bool,
     /// Whether a content of the side that asked couldn't be read.
     pub has_unreadable: bool,

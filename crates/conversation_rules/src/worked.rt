@@ -85,6 +85,9 @@ pub fn contents_that_are_refused()
     ensures batch_among_others { told JsonRpc (says Client (request (codes "6")) ∷ says Client (array_of (request (codes "7") ∷ []))
         ∷ says Server (null_answer (codes "5")) ∷ says Server (answer (codes "6")) ∷ ends Server Closed ∷ [])
         ≡ tells Server rules.NotOwed Note 1 0 ∷ tells Server rules.Unanswered Note 2 1 ∷ [] }
+    ensures batch_behind_a_request { told JsonRpc (says Client (text_request (codes "6")) ∷ says Client (array_of (request (codes "7") ∷ []))
+        ∷ says Server (null_answer (codes "5")) ∷ ends Server Closed ∷ [])
+        ≡ tells Server rules.NotOwed Note 1 0 ∷ tells Server rules.Unanswered Must 1 0 ∷ tells Server rules.Unanswered Note 2 1 ∷ [] }
     ensures oldest { told JsonRpc (says Client (array_of (request (codes "7") ∷ [])) ∷ says Client (array_of (request (codes "8") ∷ []))
         ∷ says Server (null_answer (codes "5")) ∷ ends Server Closed ∷ []) ≡ tells Server rules.NotOwed Note 1 0
         ∷ tells Server rules.Unanswered Note 1 1 ∷ tells Server rules.Unanswered Must 2 1 ∷ [] }
@@ -239,6 +242,46 @@ pub fn cancels()
     ensures after_cancel { told Mcp (says Client (request (codes "7")) ∷ says Client (mcp_cancel (number (codes "7"))) ∷ says Server (answer (codes "7")) ∷ [])
         ≡ tells Server rules.AfterCancel Note 1 0 ∷ [] }
     ensures none_in_jsonrpc { told JsonRpc (says Client (lsp_cancel null) ∷ []) ≡ [] }
+{}
+
+/// Params and results that are no objects (MCP, messages), which JSON-RPC allows.
+pub fn params_and_results_of_mcp()
+    ensures kept { told Mcp (says Client (request (codes "7")) ∷ says Server (answer (codes "7")) ∷ []) ≡ [] }
+    ensures failed { told Mcp (says Client (request (codes "7")) ∷ says Server (error_answer (codes "7") (codes "5")) ∷ []) ≡ [] }
+    ensures params { told Mcp (says Client (deep_request 1 (codes "7")) ∷ []) ≡ tells Client rules.ParamsObject Must 1 0 ∷ [] }
+    ensures of_a_notification { told Mcp20241105 (says Server (message (method ∷ (codes "params", array no_items) ∷ [])) ∷ [])
+        ≡ tells Server rules.ParamsObject Must 1 0 ∷ [] }
+    ensures no_params { told Mcp (says Client (message (method ∷ id (codes "7") ∷ (codes "params", null) ∷ [])) ∷ [])
+        ≡ tells Client rules.Params Must 1 0 ∷ [] }
+    ensures of_a_cancel { told Mcp (says Client (message ((codes "method", string (codes "notifications/cancelled")) ∷ (codes "params", array no_items) ∷ [])) ∷ [])
+        ≡ tells Client rules.CancelParams Must 1 0 ∷ [] }
+    ensures result { told Mcp (says Client (request (codes "7")) ∷ says Server (message (id (codes "7") ∷ (codes "result", null) ∷ [])) ∷ [])
+        ≡ tells Server rules.ResultObject Must 1 0 ∷ [] }
+    ensures in_an_array { told Mcp20250326 (says Client (array_of (request (codes "7") ∷ []))
+        ∷ says Server (array_of (message (id (codes "7") ∷ (codes "result", number (codes "1")) ∷ []) ∷ [])) ∷ []) ≡ tells Server rules.ResultObject Must 1 1 ∷ [] }
+    ensures other_rules { told Lsp (says Client (deep_request 1 (codes "7")) ∷ says Client (request (codes "7"))
+        ∷ says Server (message (id (codes "7") ∷ (codes "result", null) ∷ [])) ∷ []) ≡ [] }
+{}
+
+/// Behind a cancel an array may have less than its batch expects. Where it has, it is guessed for which batch it is, and what is
+/// told of what is owed is a note from then on (MCP, cancellation).
+pub fn arrays_behind_a_cancel()
+    ensures whole { told Mcp20250326 (says Client (array_of (request (codes "7") ∷ request (codes "8") ∷ [])) ∷ says Client (mcp_cancel (number (codes "7")))
+        ∷ says Server (array_of (answer (codes "8") ∷ answer (codes "7") ∷ [])) ∷ says Server (answer (codes "8")) ∷ [])
+        ≡ tells Server rules.AfterCancel Note 1 2 ∷ tells Server rules.NotOwed Must 2 0 ∷ [] }
+    ensures less { told Mcp20250326 (says Client (array_of (request (codes "7") ∷ request (codes "8") ∷ [])) ∷ says Client (mcp_cancel (number (codes "7")))
+        ∷ says Server (array_of (answer (codes "8") ∷ [])) ∷ says Server (answer (codes "8")) ∷ []) ≡ tells Server rules.NotOwed Note 2 0 ∷ [] }
+    ensures other { told Mcp20250326 (says Client (array_of (request (codes "7") ∷ [])) ∷ says Client (mcp_cancel (number (codes "7")))
+        ∷ says Server (array_of (answer (codes "8") ∷ [])) ∷ []) ≡ tells Server rules.NotOwed Note 1 1 ∷ [] }
+    ensures unanswered { told Mcp20250326 (says Client (array_of (request (codes "7") ∷ request (codes "8") ∷ [])) ∷ says Client (mcp_cancel (number (codes "7")))
+        ∷ says Server (array_of (answer (codes "9") ∷ [])) ∷ ends Server Closed ∷ [])
+        ≡ tells Server rules.NotOwed Note 1 1 ∷ tells Server rules.Unanswered Note 1 2 ∷ [] }
+    ensures before { told Mcp20250326 (says Client (array_of (request (codes "7") ∷ request (codes "8") ∷ []))
+        ∷ says Server (array_of (answer (codes "9") ∷ [])) ∷ []) ≡ tells Server rules.NotOwed Must 1 1 ∷ [] }
+    ensures no_batch { told Mcp20250326 (says Client (request (codes "7")) ∷ says Client (mcp_cancel (number (codes "7")))
+        ∷ says Server (array_of (answer (codes "9") ∷ [])) ∷ []) ≡ tells Server rules.NotOwed Must 1 1 ∷ [] }
+    ensures of_lsp { told Lsp (says Client (array_of (request (codes "7") ∷ request (codes "8") ∷ [])) ∷ says Client (lsp_cancel (number (codes "7")))
+        ∷ says Server (array_of (answer (codes "9") ∷ [])) ∷ []) ≡ tells Client rules.Batch Note 1 0 ∷ tells Server rules.NotOwed Must 1 1 ∷ [] }
 {}
 
 /// Errors without an id, and cancels without that of a request (MCP 2025-11-25, messages and cancellation).

@@ -2,7 +2,7 @@
 use Rattle.std.specs.Prelude.{ℕ}
 use Rattle.conversation_rules.specs.declared.finding.Finding.{Finding}
 use Rattle.conversation_rules.specs.declared.finding.Rule.{Rule}
-use Rattle.conversation_rules.specs.declared.finding.Rule.TheVariants.{Head, NotJson, Charset, CutOff, LineEnd, Object, Version, Method, Params, Id, Outcome, Error, BothKinds, Twice, EmptyArray, Batch, NotOwed, NotAsArray, IdFraction, IdNull, IdForm, IdAgain, RpcName, Code, CancelledCode, CancelParams, CancelUnknown, CancelInitialize, AfterCancel, Unanswered, NotJudged}
+use Rattle.conversation_rules.specs.declared.finding.Rule.TheVariants.{Head, NotJson, Charset, CutOff, LineEnd, Object, Version, Method, Params, Id, Outcome, Error, BothKinds, Twice, EmptyArray, Batch, NotOwed, NotAsArray, IdFraction, IdNull, IdForm, IdAgain, RpcName, Code, CancelledCode, CancelParams, CancelUnknown, CancelInitialize, AfterCancel, ParamsObject, ResultObject, Unanswered, NotJudged}
 use Rattle.conversation_rules.specs.declared.level.Level.{Level}
 use Rattle.conversation_rules.specs.declared.level.Level.TheVariants.{Must, Should, Note}
 use Rattle.conversation_rules.specs.declared.side.Side.{Side}
@@ -51,6 +51,8 @@ rule_number Unanswered = 27
 rule_number NotJudged = 28
 rule_number BothKinds = 29
 rule_number Twice = 30
+rule_number ParamsObject = 31
+rule_number ResultObject = 32
 
 -- 0: a connection of this library keeps it, whatever its host does; 1: its host keeps it; 2: it is no rule
 abbrev pub whose_number : Rule → ℕ
@@ -83,6 +85,8 @@ whose_number CancelParams = 1
 whose_number CancelUnknown = 1
 whose_number CancelInitialize = 1
 whose_number AfterCancel = 1
+whose_number ParamsObject = 1
+whose_number ResultObject = 1
 whose_number Unanswered = 1
 whose_number NotJudged = 2
 

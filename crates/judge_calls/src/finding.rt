@@ -90,6 +90,8 @@ fn rule_number(rule: Rule) -> u32
         Rule::NotJudged => 28,
         Rule::BothKinds => 29,
         Rule::Twice => 30,
+        Rule::ParamsObject => 31,
+        Rule::ResultObject => 32,
     }
 }
 
@@ -108,6 +110,8 @@ fn whose_number(rule: Rule) -> u32
         | Rule::CancelUnknown
         | Rule::CancelInitialize
         | Rule::AfterCancel
+        | Rule::ParamsObject
+        | Rule::ResultObject
         | Rule::Unanswered => 1,
         Rule::NotJudged => 2,
         Rule::Head

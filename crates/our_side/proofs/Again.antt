@@ -15,7 +15,7 @@ use Rattle.conversation_reading.specs.declared.entry.WrittenId.TheVariants.{Null
 use Rattle.conversation_reading.specs.declared.reading.Reading.{Reading}
 use Rattle.conversation_reading.specs.declared.reading.Reading.TheVariants.{Foreign, NotText, NotJson, OverLimits, HalfPair, Single, Array}
 use Rattle.conversation_rules.specs.Answers.{reply_of, behind_single}
-use Rattle.conversation_rules.specs.Contents.{content_outcome, reading_outcome, next_message, counted, sight_of, opened, shut, have_huge, are_answers, replies_in, reply_ids, behind_entries}
+use Rattle.conversation_rules.specs.Contents.{content_outcome, reading_outcome, next_message, counted, sight_of, array_sight, opened, shut, have_huge, are_answers, replies_in, reply_ids, behind_entries}
 use Rattle.conversation_rules.specs.Dues.{is_asked, owed_more}
 use Rattle.conversation_rules.specs.Entries.{is_request, is_answer, answer_id, id_findings, again_findings, is_cancel, cancelled_by, owed_after_last, is_first_cancel, owed_after_first, owed_after_cancel, id_used, behind_entry}
 use Rattle.conversation_rules.specs.Judging.{Seen, stream_of, pair_of, new_state, state_of, findings_of}
@@ -31,6 +31,7 @@ use Rattle.conversation_rules.specs.declared.finding.Rule.{Rule}
 use Rattle.conversation_rules.specs.declared.finding.Rule.TheVariants as rules
 use Rattle.conversation_rules.specs.declared.level.Level.TheVariants.{Must, Note}
 use Rattle.conversation_rules.specs.declared.protocol.Protocol.{Protocol}
+use Rattle.conversation_rules.specs.declared.reply.Sight.{Sight}
 use Rattle.conversation_rules.specs.declared.side.Side.{Side}
 use Rattle.conversation_rules.specs.declared.side.Side.TheVariants.{Client, Server}
 use Rattle.our_side.specs.Breaking.{BreaksNone}
@@ -39,7 +40,7 @@ use Rattle.our_side.proofs.Below.{all-append, IsKeyBelow, OneBelow, OwedBelow, o
 use Rattle.our_side.proofs.Fair.{Silent, IsFair, AllWell, EndsFairly, own_may, own_hosts, faultless, own_ids, their_content, our_fault_each, their_fault_each, we_left_each, they_left_each, none_each, breaks_none}
 use Rattle.our_side.proofs.Found.{Keeps, all_each}
 use Rattle.our_side.proofs.Streaming.{other, swap, Later, Grow}
-use Rattle.our_side.proofs.Walking.{Each, each_if, Answering, EntriesMay, ReadingMay, reading_each, single_each, answers_each}
+use Rattle.our_side.proofs.Walking.{Each, each_if, Answering, any_answering, EntriesMay, ReadingMay, reading_each, single_each, answers_each}
 
 -- ---- keys that go up
 
@@ -204,13 +205,10 @@ module _ (side : Side) (those : Rule → Bool) (fair : IsFair those) (not_owed :
   P = Silent side those
 
   module _ (message : Message) (is : message.side ≡ side) where
-    our_answering : Answering P message
-    our_answering = record {
-      not_owed = own_may side those message is rules.NotOwed not_owed;
-      not_as_array = own_may side those message is rules.NotAsArray not_as_array;
-      cancelled_code = own_may side those message is rules.CancelledCode fair.cancelled_code;
-      after_cancel = own_may side those message is rules.AfterCancel fair.after_cancel;
-    }
+    our_answering : (sight : Sight) → Answering P message sight
+    our_answering =
+        any_answering P message (own_may side those message is rules.NotOwed not_owed) (own_may side those message is rules.NotAsArray not_as_array)
+        (own_may side those message is rules.CancelledCode fair.cancelled_code) (own_may side those message is rules.AfterCancel fair.after_cancel)
 
     our_entries : (at b e : ℕ) (entries : List Entry) (own : Speaker) → AreSaid entries → EntriesUp b e entries → IsBelow b own → EntriesMay P message protocol at entries own
     our_entries at b e [] own said up below = tt
@@ -229,12 +227,12 @@ module _ (side : Side) (those : Rule → Bool) (fair : IsFair those) (not_owed :
     our_reading is_unfinished b e pair (Single entry) said up below = (
       faultless P message entry said.faultless said.one_kind said.once,
       ids_below P protocol message 0 false (opened message false entry.has_huge pair.own) b e entry said up (opened_below b message false entry.has_huge pair.own below),
-      none_each P (is_answer entry.kind) _ (single_each P message our_answering protocol (sight_of pair) (reply_of protocol pair.other.owed 0 entry) (answer_id protocol entry) pair.other.owed),
+      none_each P (is_answer entry.kind) _ (single_each P message (sight_of pair) (our_answering (sight_of pair)) protocol (reply_of protocol pair.other.owed 0 entry) (answer_id protocol entry) pair.other.owed),
     )
     our_reading is_unfinished b e pair (Array []) well up below = absurd well
     our_reading is_unfinished b e pair (Array (entry ∷ entries)) said up below = (
       our_entries 1 b e (entry ∷ entries) (opened message true (have_huge (entry ∷ entries)) pair.own) said up (opened_below b message true (have_huge (entry ∷ entries)) pair.own below),
-      answers_each P message our_answering protocol (sight_of pair) (are_answers (entry ∷ entries)) (replies_in protocol pair.other.owed 1 (entry ∷ entries)) (reply_ids (entry ∷ entries)) pair.other.owed,
+      answers_each P message (array_sight pair (reply_ids (entry ∷ entries))) (our_answering (array_sight pair (reply_ids (entry ∷ entries)))) protocol (are_answers (entry ∷ entries)) (replies_in protocol pair.other.owed 1 (entry ∷ entries)) (reply_ids (entry ∷ entries)) pair.other.owed,
     )
 
     our_below : (is_unfinished : Bool) (b e : ℕ) (pair : Pair) (reading : Reading) → IsWell reading → ReadingUp b e reading → IsBelow b pair.own → IsBelow e (reading_outcome protocol is_unfinished message pair reading).pair.own
@@ -270,7 +268,7 @@ module _ (side : Side) (those : Rule → Bool) (fair : IsFair those) (not_owed :
   their_below is_unfinished b message pair (Array []) is = is
   their_below is_unfinished b message pair (Array (entry ∷ entries)) is = record {
     runs = is.runs;
-    owed = answers_below b protocol (sight_of pair) message (replies_in protocol pair.other.owed 1 (entry ∷ entries)) (reply_ids (entry ∷ entries)) pair.other.owed is.owed;
+    owed = answers_below b protocol (array_sight pair (reply_ids (entry ∷ entries))) message (replies_in protocol pair.other.owed 1 (entry ∷ entries)) (reply_ids (entry ∷ entries)) pair.other.owed is.owed;
   }
 
   -- ---- all of it

@@ -1,8 +1,8 @@
 -- A side that answers nothing more often than it was asked is accused of nothing.
 use Rattle.std.proofs.Common.{◌≡◌, ◌⊎◌, inl, inr, ◌==◌, ◌||◌, ◌&&◌, not, ℕ, zero, suc, ◌+◌, ◌-◌, ◌^◌, ◌≤◌, length, Bool, true, false, if◌then◌else◌, List, [], ◌∷◌, ◌++◌, map, position, Option, Some, None, option_map, refl, sym, ap, subst, ◌∙◌, arith, append-nil, append_assoc}
 use Rattle.std.proofs.lemmas.Bool.{eqb-true, eq-eqb}
-use Rattle.std.specs.Prelude.{slice_get, remove, option_and_then, count_by}
-use Rattle.std.specs.List.{list_all}
+use Rattle.std.specs.Prelude.{⊤, slice_get, remove, option_and_then, count_by}
+use Rattle.std.specs.List.{list_all, list_any}
 use Rattle.std.specs.Option.{option_map_or, option_to_list, is_none}
 use Rattle.conversation_reading.specs.declared.entry.Entry.{Entry}
 use Rattle.conversation_reading.specs.First.{First}
@@ -13,11 +13,11 @@ use Rattle.conversation_reading.specs.declared.entry.WrittenId.TheVariants.{Null
 use Rattle.conversation_reading.specs.declared.reading.Reading.{Reading}
 use Rattle.conversation_reading.specs.declared.reading.Reading.TheVariants.{Foreign, NotText, NotJson, OverLimits, HalfPair, Single, Array}
 use Rattle.conversation_rules.specs.Amounts.{same_id, is_null, is_odd, is_plain}
-use Rattle.conversation_rules.specs.Answers.{target_of_null, single_findings, behind_single, refused_behind_single, reply_of, answers_findings, answers_findings_of, behind_answers, behind_answers_of, batch_rest}
-use Rattle.conversation_rules.specs.Contents.{reading_outcome, sight_of, opened, shut, counted_array, have_huge, are_answers, replies_in, reply_ids, single_other, single_answer_findings, behind_entries}
+use Rattle.conversation_rules.specs.Answers.{target_of_null, single_findings, behind_single, refused_behind_single, reply_of, cancelled_code_level, not_owed_level, or_note, answers_findings, answers_findings_of, behind_answers, behind_answers_of, batch_rest}
+use Rattle.conversation_rules.specs.Contents.{reading_outcome, sight_of, array_sight, guesses, array_answer_findings, array_other, opened, shut, counted_array, have_huge, are_answers, replies_in, reply_ids, single_other, single_answer_findings, behind_entries}
 use Rattle.conversation_rules.specs.Dues.{closed, owed_more, settled_batch, cancelled_in, ids_read, array_target, array_fits, found_batch}
 use Rattle.conversation_rules.specs.Entries.{is_answer, is_well, may_lack_id, id_by, answer_id, is_cancel, cancelled_by, owed_after_last, is_first_cancel, owed_after_first, owed_after_cancel, behind_entry, id_findings}
-use Rattle.conversation_rules.specs.Matching.{same_ids, expected_ids, is_just, can_be_answered, batch_target, named_target, named_in, or_else, oldest, is_request_for}
+use Rattle.conversation_rules.specs.Matching.{same_ids, expected_ids, is_just, is_guess, can_be_answered, batch_target, named_target, named_in, or_else, oldest, is_request_for}
 use Rattle.conversation_rules.specs.Owed.{Owed, Due, has_twice, first_id, request_owed, may_be_left, new_due, unreadable_due, has_id, has_null_params, is_expected, may_have, expected_without_params, owed_as, owed_on, empty_array_owed}
 use Rattle.conversation_rules.specs.Protocols.{is_mcp, may_leave_null}
 use Rattle.conversation_rules.specs.Speakers.{Speaker, Pair, found, one_more}
@@ -26,23 +26,26 @@ use Rattle.conversation_rules.specs.declared.finding.Message.{Message}
 use Rattle.conversation_rules.specs.declared.finding.Rule.{Rule}
 use Rattle.conversation_rules.specs.declared.finding.Rule.TheVariants as rules
 use Rattle.conversation_rules.specs.declared.found.Target.{Target}
+use Rattle.conversation_rules.specs.declared.level.Level.{Level}
+use Rattle.conversation_rules.specs.declared.level.Level.TheVariants.{Must, Should, Note}
 use Rattle.conversation_rules.specs.declared.protocol.Protocol.{Protocol}
 use Rattle.conversation_rules.specs.declared.protocol.Protocol.TheVariants.{JsonRpc}
 use Rattle.conversation_rules.specs.declared.reply.Refusals.{Refusals}
 use Rattle.conversation_rules.specs.declared.reply.Reply.{Reply}
 use Rattle.conversation_rules.specs.declared.reply.Sight.{Sight}
 use Rattle.conversation_rules.specs.declared.side.Side.{Side}
-use Rattle.our_side.specs.Asked.{IsPlain, ArePlain, IsNamed, expected_of, ids_expected, HasPlain, AreNoAnswers, AreAnswers, Says, Question, alone, together, under_null, CanBeAsked, as_number, asked_from, asked_by, answered_under, ids_answered, answered_together, answered_by}
-use Rattle.our_side.specs.Breaking.{same_side, is_note, accuses, is_of_answers}
+use Rattle.our_side.specs.Asked.{IsPlain, ArePlain, IsNamed, expected_of, ids_expected, HasPlain, AreNoAnswers, AreAnswers, Says, Question, alone, together, by_array, under_null, CanBeAsked, as_number, any_id, asked_from, asked_by, answered_under, ids_answered, answered_together, answered_by}
+use Rattle.our_side.specs.Breaking.{same_side, tells_of, is_note, accuses, is_of_answers}
 use Rattle.our_side.specs.Expected.{NoneOf}
+use Rattle.our_side.proofs.Cancels.{guesses_by}
 use Rattle.our_side.proofs.Fair.{Silent, own_may, ids_each}
 use Rattle.our_side.proofs.Formed.{IsFormed, AreFormed, IsFormedReading}
 use Rattle.our_side.proofs.Ids.{same_itself, same_plain, named_plain, named_not_null, plain_named, only_null, same_as_other, same_list}
 use Rattle.our_side.proofs.Matched.{array_none}
 use Rattle.our_side.proofs.Kept.{Mild, mild_none, Enough, Leaves, Asks, same_left, more_most, one_more_is}
-use Rattle.our_side.proofs.Open.{IsOfIds, open_on, open_in, AreOrderly, unreadable_more, unreadable_open, Ends, front_in, new_ends, new_front, new_length, map_length, more_length, ends_cancelled, front_cancelled, ends_more, front_more, closed_orderly, closed_open, closed_shut, nothing_alone, nothing_together, open_ends, ends_orderly, LastNew, LastOne, LastBatch, first_one, more_batch, new_cancelled, batch_cancelled, new_orderly, one_orderly, batch_orderly, new_open, one_open, batch_open, fitting, takes, none_oldest, alone_fits, TakesWhole, takes_whole, together_wholes}
+use Rattle.our_side.proofs.Open.{IsOfIds, open_on, open_in, AreOrderly, unreadable_more, unreadable_open, Ends, front_in, new_ends, new_front, new_length, map_length, more_length, ends_cancelled, front_cancelled, ends_more, front_more, closed_orderly, closed_open, closed_shut, nothing_alone, nothing_together, open_ends, ends_orderly, LastNew, LastOne, LastBatch, first_one, more_batch, new_cancelled, batch_cancelled, new_orderly, one_orderly, batch_orderly, new_open, one_open, batch_open, fitting, takes, none_oldest, alone_fits, wholes, any_whole, whole_any, open_batch, TakesWhole, takes_whole, together_wholes}
 use Rattle.our_side.proofs.UnderNull.{IsAnswered, target, entry_answered, null_answered}
-use Rattle.our_side.proofs.Walking.{Each, May, Hosts, Faulty, EntriesMay, ReadingMay}
+use Rattle.our_side.proofs.Walking.{Each, May, Hosts, Faulty, Answering, EntriesMay, ReadingMay, single_each, answers_each}
 
 -- ---- the id that is expected
 
@@ -378,6 +381,7 @@ ask_content protocol is_unfinished message pair (Array (entry ∷ entries)) orde
         → Asks q pair.own.refusals (counted_array pair.own (shut last)).refusals (open_in q owed) (open_in q (closed last.owed)) (asked_from q true false ids)
     opened_by (alone id) can = let all = counted_own (alone id) can tt in record { most = λ most. most; left = inr (omega (arith, all)) }
     opened_by (together all_ids) can = let all = counted_own (together all_ids) can tt in record { most = λ most. most; left = inr (omega (arith, all)) }
+    opened_by by_array can = let all = counted_own by_array can tt in record { most = λ most. most; left = inr (omega (arith, all)) }
     opened_by under_null can = array_counted pair.own (shut last) it.kept (front_in under_null last.owed) (it.front under_null ∙ new_front under_null owed new) shut_is
 
 -- ---- a single answer
@@ -389,6 +393,7 @@ module _ (protocol : Protocol) (sight : Sight) (message : Message) (reply : Repl
   named_few : (other : WrittenId) → id ≡ other → (q : Question) → CanBeAsked q → asked_from q false false (other ∷ []) ≤ answered_under q (Some id)
   named_few other equal (alone i) can = let same = ap (λ x. as_number (same_id i x)) equal in omega (arith, same)
   named_few other equal (together ids) can = omega arith
+  named_few other equal by_array can = omega arith
   named_few other equal under_null can = let none = ap (λ x. as_number (is_null x)) (sym equal) ∙ ap as_number (named_not_null id named) in omega (arith, none)
 
   expected_few : (o : Option WrittenId) → has_id id o ≡ true → ArePlain (option_to_list o) → (q : Question) → CanBeAsked q → asked_from q false false (option_to_list o) ≤ answered_under q (Some id)
@@ -483,9 +488,9 @@ read_back [] = refl
 read_back (id ∷ ids) = ap (λ rest. id ∷ rest) (read_back ids)
 
 module _ (protocol : Protocol) (sight : Sight) (message : Message) (replies : List Reply) (given : List (Option WrittenId)) (owed : List Due) (id : WrittenId) (more : List WrittenId) (plain : ArePlain (id ∷ more))
-    (read : ids_read given ≡ id ∷ more) (orderly : AreOrderly owed) (some : 1 ≤ open_in (together (id ∷ more)) owed) where
+    (read : ids_read given ≡ id ∷ more) (orderly : AreOrderly owed) (some : 1 ≤ wholes (is_just (id ∷ more)) owed) where
   it : TakesWhole (is_just (id ∷ more)) owed
-  it = takes_whole (is_just (id ∷ more)) owed orderly (let same = together_wholes (id ∷ more) owed in omega (arith, some, same))
+  it = takes_whole (is_just (id ∷ more)) owed orderly some
 
   batch_is : array_target given owed ≡ Some it.content
   batch_is = ap (λ these. batch_target these (count_by is_none given) owed) read ∙ ap (λ o. option_map_or Some o (position (can_be_answered (id ∷ more) (count_by is_none given)) owed)) it.is
@@ -521,6 +526,11 @@ module _ (protocol : Protocol) (sight : Sight) (message : Message) (replies : Li
   array_few (alone i) can = omega arith
   array_few (together []) can = absurd can
   array_few (together (x ∷ xs)) can = let same = ap as_number (same_as_other (id ∷ more) (expected_ids it.it) (x ∷ xs) plain it.was.plain can parts.1) in omega (arith, same)
+  array_few by_array can = at_most_one (any_id (expected_ids it.it))
+    where
+      at_most_one : (b : Bool) → as_number b ≤ 1
+      at_most_one true = omega arith
+      at_most_one false = omega arith
   array_few under_null can = omega arith
 
   array_orderly : AreOrderly (behind_answers protocol sight message replies given owed)
@@ -536,17 +546,67 @@ module _ (protocol : Protocol) (sight : Sight) (message : Message) (replies : Li
 
 -- ---- what is said
 
+-- What is said is still expected; the ids of a batch, where no cancel came by which one may be left.
+abbrev pub IsCounted : Question → Bool → Type 0
+IsCounted (alone id) has_cancelled = ⊤
+IsCounted (together ids) has_cancelled = has_cancelled ≡ false
+IsCounted by_array has_cancelled = ⊤
+IsCounted under_null has_cancelled = ⊤
+
+abbrev pub Expects : Speaker → Reading → Type 0
+Expects asker reading = (q : Question) → CanBeAsked q → IsCounted q asker.has_cancelled → 1 ≤ answered_by q reading → Enough q asker.refusals 1 (open_in q asker.owed)
+
 together_open : (r : Refusals) (ids : List WrittenId) (owed : List Due) → Enough (together ids) r 1 (open_in (together ids) owed) → 1 ≤ open_in (together ids) owed
 together_open r ids owed (inl most) = absurd most
 together_open r ids owed (inr enough) = omega (arith, enough)
 
--- what an array of answers is for is still expected
-array_some : (r : Refusals) (owed : List Due) (entry : Entry) (entries : List Entry) → (are : AreAnswers (entry ∷ entries)) → ((q : Question) → CanBeAsked q → 1 ≤ answered_by q (Array (entry ∷ entries)) → Enough q r 1 (open_in q owed))
-    → let all = answers_some entry entries are in 1 ≤ open_in (together (all.first ∷ all.more)) owed
-array_some r owed entry entries are expects =
-    let all = answers_some entry entries are in
-    let ids = all.first ∷ all.more in
-    together_open r ids owed (expects (together ids) all.plain (let one = ap (λ others. as_number (same_ids ids others)) all.answered_ids ∙ ap as_number (same_list ids all.plain) in omega (arith, one)))
+array_open : (r : Refusals) (owed : List Due) → Enough by_array r 1 (open_in by_array owed) → 1 ≤ open_in by_array owed
+array_open r owed (inl most) = absurd most
+array_open r owed (inr enough) = omega (arith, enough)
+
+-- a single answer counts for no ids of a batch
+counted_singly : (q : Question) (id : WrittenId) (has_cancelled : Bool) → 1 ≤ answered_under q (Some id) → IsCounted q has_cancelled
+counted_singly (alone other) id has_cancelled some = tt
+counted_singly (together ids) id has_cancelled some = absurd (omega (arith, some))
+counted_singly by_array id has_cancelled some = tt
+counted_singly under_null id has_cancelled some = tt
+
+-- from a batch just the ids of an array are expected, where that isn't guessed
+module _ (asker : Speaker) (entry : Entry) (entries : List Entry) (are : AreAnswers (entry ∷ entries)) (expects : Expects asker (Array (entry ∷ entries))) where
+  abbrev said : SomeAnswers (entry ∷ entries)
+  said = answers_some entry entries are
+
+  abbrev ids_said : List WrittenId
+  ids_said = said.first ∷ said.more
+
+  ids_are : ids_read (reply_ids (entry ∷ entries)) ≡ ids_said
+  ids_are = ap ids_read said.replied ∙ read_back ids_said
+
+  all_expected : asker.has_cancelled ≡ false → 1 ≤ wholes (is_just ids_said) asker.owed
+  all_expected none =
+      let one : answered_by (together ids_said) (Array (entry ∷ entries)) ≡ 1 = ap (λ others. as_number (same_ids ids_said others)) said.answered_ids ∙ ap as_number (same_list ids_said said.plain) in
+      let some = together_open asker.refusals ids_said asker.owed (expects (together ids_said) said.plain none (omega (arith, one))) in
+      let same = together_wholes ids_said asker.owed in
+      omega (arith, some, same)
+
+  is_open_one : list_any (λ due. due.is_batch) asker.owed ≡ true
+  is_open_one =
+      let one : answered_by by_array (Array (entry ∷ entries)) ≡ 1 = ap (λ ids. as_number (any_id ids)) said.answered_ids in
+      open_batch asker.owed (array_open asker.refusals asker.owed (expects by_array tt tt (omega (arith, one))))
+
+  guess_is : (b : Bool) → list_any (is_just ids_said) asker.owed ≡ b → asker.has_cancelled ≡ true → guesses asker (reply_ids (entry ∷ entries)) ≡ not b
+  guess_is b is cancelled = (λ i. cancelled i && is_guess (ids_are i) asker.owed) ∙ (λ i. is_open_one i && not (is i))
+
+  by_just : (b : Bool) → list_any (is_just ids_said) asker.owed ≡ b → asker.has_cancelled ≡ true → guesses asker (reply_ids (entry ∷ entries)) ≡ false → 1 ≤ wholes (is_just ids_said) asker.owed
+  by_just true is cancelled certain = whole_any (is_just ids_said) asker.owed is
+  by_just false is cancelled certain = absurd (let no : true ≡ false = sym (guess_is false is cancelled) ∙ certain in cc)
+
+  array_some : guesses asker (reply_ids (entry ∷ entries)) ≡ false → 1 ≤ wholes (is_just ids_said) asker.owed
+  array_some certain = from asker.has_cancelled refl
+    where
+      from : (b : Bool) → asker.has_cancelled ≡ b → 1 ≤ wholes (is_just ids_said) asker.owed
+      from true cancelled = by_just (list_any (is_just ids_said) asker.owed) refl cancelled certain
+      from false cancelled = all_expected cancelled
 
 and_false : (b : Bool) → (b && false) ≡ false
 and_false true = refl
@@ -603,6 +663,8 @@ module _ (side : Side) where
     not_judged = may message is rules.NotJudged refl;
     line_end = may message is rules.LineEnd refl;
     batch = may message is rules.Batch refl;
+    params_object = may message is rules.ParamsObject refl;
+    result_object = may message is rules.ResultObject refl;
   }
 
   module _ (protocol : Protocol) (message : Message) (is : message.side ≡ side) where
@@ -628,10 +690,6 @@ module _ (side : Side) where
     any_entries at [] own = tt
     any_entries at (entry ∷ entries) own = (any_faults entry, any_ids at true own entry, any_entries (suc at) entries (behind_entry protocol at entry own))
 
-    -- what is said, where it is still expected
-    abbrev pub Expects : Speaker → Reading → Type 0
-    Expects asker reading = (q : Question) → CanBeAsked q → 1 ≤ answered_by q reading → Enough q asker.refusals 1 (open_in q asker.owed)
-
     -- what is owed behind it
     pub record Behind (before after : Speaker) (reading : Reading) : Type 0 where
       pub orderly_after : AreOrderly after.owed
@@ -648,7 +706,7 @@ module _ (side : Side) where
         → IsAnswered protocol (sight_of pair) message (reply_of protocol pair.other.owed 0 entry) pair.other.owed name.0
     one_answered pair entry orderly answer well name expects =
         answered protocol (sight_of pair) message (reply_of protocol pair.other.owed 0 entry) pair.other.owed name.0 name.1 well (may_be pair entry name well) orderly
-        (λ q can some. expects q can (subst (λ n. 1 ≤ n) (sym (λ i. if answer i then answered_under q (name.2 i) else 0)) some))
+        (λ q can some. expects q can (counted_singly q name.0 pair.other.has_cancelled some) (subst (λ n. 1 ≤ n) (sym (λ i. if answer i then answered_under q (name.2 i) else 0)) some))
 
     -- it is looked for by the id that it has
     by_name : (entry : Entry) (name : HasPlain entry) → answer_id protocol entry ≡ Some name.0
@@ -691,69 +749,138 @@ module _ (side : Side) where
             }
         from false answer = record { orderly_after = orderly; leaves = λ q can. same_left q pair.other.refusals (open_in q pair.other.owed) (open_in q pair.other.owed) (answered_by q (Single entry)) (omega arith) }
 
-    abbrev array_findings_of : Pair → List Entry → Bool → List (Option WrittenId) → List Finding
-    array_findings_of pair entries are given = answers_findings protocol (sight_of pair) message are (replies_in protocol pair.other.owed 1 entries) given pair.other.owed
+    -- ---- where it was guessed what is open, nothing is more than a note
 
-    -- an array without an answer, or with answers alone
-    array_each : (pair : Pair) (entry : Entry) (entries : List Entry) → AreOrderly pair.other.owed → Says (Array (entry ∷ entries)) → Expects pair.other (Array (entry ∷ entries))
-        → Each P (array_findings_of pair (entry ∷ entries) (are_answers (entry ∷ entries)) (reply_ids (entry ∷ entries)))
-    array_each pair entry entries orderly (inl none) expects =
-        subst (λ rs. Each P (answers_findings protocol (sight_of pair) message (are_answers (entry ∷ entries)) rs (reply_ids (entry ∷ entries)) pair.other.owed)) (sym (no_replies protocol pair.other.owed 1 (entry ∷ entries) none))
-        (subst (λ is. Each P (answers_findings protocol (sight_of pair) message (are_answers (entry ∷ entries)) [] is pair.other.owed)) (sym (no_ids (entry ∷ entries) none)) tt)
-    array_each pair entry entries orderly (inr are) expects =
-        let all = answers_some entry entries are in
-        subst (λ b. Each P (array_findings_of pair (entry ∷ entries) b (reply_ids (entry ∷ entries)))) (sym all.all)
-        (spared_of side (array_findings_of pair (entry ∷ entries) true (reply_ids (entry ∷ entries)))
-        (mild_none _ (array_none_told protocol (sight_of pair) message (replies_in protocol pair.other.owed 1 (entry ∷ entries)) (reply_ids (entry ∷ entries)) pair.other.owed all.first all.more all.plain
-        (ap ids_read all.replied ∙ read_back (all.first ∷ all.more)) orderly (array_some pair.other.refusals pair.other.owed entry entries are expects))))
+    note : (rule : Rule) (at : ℕ) (level : Level) → level ≡ Note → P (found message at rule level)
+    note rule at level level_is = ap (λ l. tells_of side is_of_answers (found message at rule l) && not (is_note l)) level_is ∙ and_false (tells_of side is_of_answers (found message at rule Note))
 
-    array_behind : (pair : Pair) (entry : Entry) (entries : List Entry) → AreOrderly pair.other.owed → Says (Array (entry ∷ entries)) → Expects pair.other (Array (entry ∷ entries))
-        → Behind pair.other (record pair.other { owed = behind_answers protocol (sight_of pair) message (replies_in protocol pair.other.owed 1 (entry ∷ entries)) (reply_ids (entry ∷ entries)) pair.other.owed }) (Array (entry ∷ entries))
-    array_behind pair entry entries orderly (inl none) expects =
-        let left : behind_answers protocol (sight_of pair) message (replies_in protocol pair.other.owed 1 (entry ∷ entries)) (reply_ids (entry ∷ entries)) pair.other.owed ≡ pair.other.owed =
-        ap (λ rs. behind_answers protocol (sight_of pair) message rs (reply_ids (entry ∷ entries)) pair.other.owed) (no_replies protocol pair.other.owed 1 (entry ∷ entries) none)
-        ∙ ap (λ ids. behind_answers protocol (sight_of pair) message [] ids pair.other.owed) (no_ids (entry ∷ entries) none) in
-        record {
-          orderly_after = subst AreOrderly (sym left) orderly;
-          leaves = λ q can. same_left q pair.other.refusals _ _ (answered_by q (Array (entry ∷ entries))) (let same = ap (open_in q) left in omega (arith, same));
-        }
-    array_behind pair entry entries orderly (inr are) expects =
-        let all = answers_some entry entries are in
-        let replies = replies_in protocol pair.other.owed 1 (entry ∷ entries) in
-        let given = reply_ids (entry ∷ entries) in
-        let read = ap ids_read all.replied ∙ read_back (all.first ∷ all.more) in
-        let some = array_some pair.other.refusals pair.other.owed entry entries are expects in
-        record {
-          orderly_after = array_orderly protocol (sight_of pair) message replies given pair.other.owed all.first all.more all.plain read orderly some;
-          leaves = λ q can. same_left q pair.other.refusals _ _ (answered_by q (Array (entry ∷ entries))) (
-              let most = array_enough protocol (sight_of pair) message replies given pair.other.owed all.first all.more all.plain read orderly some q can in
-              let count : answered_by q (Array (entry ∷ entries)) ≡ answered_together q (all.first ∷ all.more) = ap (answered_together q) all.answered_ids in
-              omega (arith, most, count));
-        }
+    either_note : (may_be_read : Bool) (level : Level) → level ≡ Note → (if may_be_read then Note else level) ≡ Note
+    either_note true level level_is = refl
+    either_note false level level_is = level_is
 
-    pub our_may : (is_unfinished : Bool) (pair : Pair) (reading : Reading) → AreOrderly pair.other.owed → Says reading → Expects pair.other reading → ReadingMay P message protocol is_unfinished pair reading
-    our_may is_unfinished pair Foreign orderly says expects = absurd says
-    our_may is_unfinished pair NotText orderly says expects = absurd says
-    our_may is_unfinished pair NotJson orderly says expects = absurd says
-    our_may is_unfinished pair OverLimits orderly says expects = tt
-    our_may is_unfinished pair HalfPair orderly says expects = tt
-    our_may is_unfinished pair (Single entry) orderly says expects =
-        (any_faults entry, any_ids 0 false (opened message false entry.has_huge pair.own) entry, said_each pair entry orderly says expects)
-    our_may is_unfinished pair (Array []) orderly says expects = may message is rules.EmptyArray refl
-    our_may is_unfinished pair (Array (entry ∷ entries)) orderly says expects =
-        (any_entries 1 (entry ∷ entries) (opened message true (have_huge (entry ∷ entries)) pair.own), array_each pair entry entries orderly says expects)
+    guessed_answering : (sight : Sight) → sight.is_broken ≡ true → Answering P message sight
+    guessed_answering sight broken = record {
+      not_owed = λ at may_be_read. note rules.NotOwed at (not_owed_level sight may_be_read) (either_note may_be_read (or_note sight.is_broken Must) (ap (λ b. or_note b Must) broken));
+      refused = λ at. note rules.NotOwed at Note refl;
+      not_as_array = λ at. note rules.NotAsArray at (or_note sight.is_broken Should) (ap (λ b. or_note b Should) broken);
+      cancelled_code = λ at. may message is rules.CancelledCode refl at (cancelled_code_level sight);
+      after_cancel = λ at. may message is rules.AfterCancel refl at Note;
+    }
+
+    last_true : (b c : Bool) → (b || (c || true)) ≡ true
+    last_true true c = refl
+    last_true false true = refl
+    last_true false false = refl
+
+    guessed_sight : (pair : Pair) → pair.other.is_guessed ≡ true → (sight_of pair).is_broken ≡ true
+    guessed_sight pair guessed = ap (λ g. pair.own.is_over || (pair.other.is_over || g)) guessed ∙ last_true pair.own.is_over pair.other.is_over
+
+    guess_sight : (pair : Pair) (given : List (Option WrittenId)) → guesses pair.other given ≡ true → (array_sight pair given).is_broken ≡ true
+    guess_sight pair given guess = ap (λ g. (sight_of pair).is_broken || g) guess ∙ or_true (sight_of pair).is_broken
+      where
+        or_true : (b : Bool) → (b || true) ≡ true
+        or_true true = refl
+        or_true false = refl
+
+    -- what is known as long as nothing was guessed
+    abbrev pub Known : Pair → Reading → Type 0
+    Known pair reading = pair.other.is_guessed ≡ false → AreOrderly pair.other.owed × Expects pair.other reading
+
+    said_by : (pair : Pair) (entry : Entry) → Says (Single entry) → Known pair (Single entry) → Each P (single_answer_findings protocol (sight_of pair) message entry pair.other)
+    said_by pair entry says known = from pair.other.is_guessed refl
+      where
+        told : (b : Bool) → pair.other.is_guessed ≡ true → Each P (if b then single_findings protocol (sight_of pair) message (reply_of protocol pair.other.owed 0 entry) (answer_id protocol entry) pair.other.owed else [])
+        told true guessed = single_each P message (sight_of pair) (guessed_answering (sight_of pair) (guessed_sight pair guessed)) protocol (reply_of protocol pair.other.owed 0 entry) (answer_id protocol entry) pair.other.owed
+        told false guessed = tt
+
+        from : (b : Bool) → pair.other.is_guessed ≡ b → Each P (single_answer_findings protocol (sight_of pair) message entry pair.other)
+        from true guessed = told (is_answer entry.kind) guessed
+        from false sure = let it = known sure in said_each pair entry it.0 says it.1
+
+    module _ (pair : Pair) (entry : Entry) (entries : List Entry) where
+      abbrev given : List (Option WrittenId)
+      given = reply_ids (entry ∷ entries)
+
+      abbrev replies : List Reply
+      replies = replies_in protocol pair.other.owed 1 (entry ∷ entries)
+
+      abbrev sight : Sight
+      sight = array_sight pair given
+
+      -- with these replies and ids
+      abbrev told_with : Bool → List Reply → List (Option WrittenId) → List Finding
+      told_with are_alone rs is = answers_findings protocol sight message are_alone rs is pair.other.owed
+
+      guessed_array : sight.is_broken ≡ true → Each P (told_with (are_answers (entry ∷ entries)) replies given)
+      guessed_array broken = answers_each P message sight (guessed_answering sight broken) protocol (are_answers (entry ∷ entries)) replies given pair.other.owed
+
+      certain_array : (are : AreAnswers (entry ∷ entries)) → AreOrderly pair.other.owed → Expects pair.other (Array (entry ∷ entries)) → guesses pair.other given ≡ false → Each P (told_with (are_answers (entry ∷ entries)) replies given)
+      certain_array are orderly expects certain =
+          let all = answers_some entry entries are in
+          subst (λ b. Each P (told_with b replies given)) (sym all.all)
+          (spared_of side (told_with true replies given)
+          (mild_none _ (array_none_told protocol sight message replies given pair.other.owed all.first all.more all.plain (ids_are pair.other entry entries are expects) orderly
+          (array_some pair.other entry entries are expects certain))))
+
+      -- an array without an answer, or with answers alone
+      array_each : Says (Array (entry ∷ entries)) → Known pair (Array (entry ∷ entries)) → Each P (array_answer_findings protocol message (entry ∷ entries) pair)
+      array_each (inl none) known =
+          subst (λ rs. Each P (told_with (are_answers (entry ∷ entries)) rs given)) (sym (no_replies protocol pair.other.owed 1 (entry ∷ entries) none))
+          (subst (λ is. Each P (told_with (are_answers (entry ∷ entries)) [] is)) (sym (no_ids (entry ∷ entries) none)) tt)
+      array_each (inr are) known = from pair.other.is_guessed refl (guesses pair.other given) refl
+        where
+          from : (b : Bool) → pair.other.is_guessed ≡ b → (c : Bool) → guesses pair.other given ≡ c → Each P (told_with (are_answers (entry ∷ entries)) replies given)
+          from true guessed c guess = guessed_array (ap (λ b. b || guesses pair.other given) (guessed_sight pair guessed))
+          from false sure true guess = guessed_array (guess_sight pair given guess)
+          from false sure false certain = let it = known sure in certain_array are it.0 it.1 certain
+
+      abbrev left_with : List Reply → List (Option WrittenId) → List Due
+      left_with rs is = behind_answers protocol sight message rs is pair.other.owed
+
+      array_behind : Says (Array (entry ∷ entries)) → AreOrderly pair.other.owed → Expects pair.other (Array (entry ∷ entries)) → guesses pair.other given ≡ false
+          → Behind pair.other (array_other protocol message (entry ∷ entries) pair) (Array (entry ∷ entries))
+      array_behind (inl none) orderly expects certain =
+          let left : left_with replies given ≡ pair.other.owed =
+          ap (λ rs. left_with rs given) (no_replies protocol pair.other.owed 1 (entry ∷ entries) none) ∙ ap (left_with []) (no_ids (entry ∷ entries) none) in
+          record {
+            orderly_after = subst AreOrderly (sym left) orderly;
+            leaves = λ q can. same_left q pair.other.refusals _ _ (answered_by q (Array (entry ∷ entries))) (let same = ap (open_in q) left in omega (arith, same));
+          }
+      array_behind (inr are) orderly expects certain =
+          let all = answers_some entry entries are in
+          let read = ids_are pair.other entry entries are expects in
+          let some = array_some pair.other entry entries are expects certain in
+          record {
+            orderly_after = array_orderly protocol sight message replies given pair.other.owed all.first all.more all.plain read orderly some;
+            leaves = λ q can. same_left q pair.other.refusals _ _ (answered_by q (Array (entry ∷ entries))) (
+                let most = array_enough protocol sight message replies given pair.other.owed all.first all.more all.plain read orderly some q can in
+                let count : answered_by q (Array (entry ∷ entries)) ≡ answered_together q (all.first ∷ all.more) = ap (answered_together q) all.answered_ids in
+                omega (arith, most, count));
+          }
+
+    pub our_may : (is_unfinished : Bool) (pair : Pair) (reading : Reading) → Says reading → Known pair reading → ReadingMay P message protocol is_unfinished pair reading
+    our_may is_unfinished pair Foreign says known = absurd says
+    our_may is_unfinished pair NotText says known = absurd says
+    our_may is_unfinished pair NotJson says known = absurd says
+    our_may is_unfinished pair OverLimits says known = tt
+    our_may is_unfinished pair HalfPair says known = tt
+    our_may is_unfinished pair (Single entry) says known =
+        (any_faults entry, any_ids 0 false (opened message false entry.has_huge pair.own) entry, said_by pair entry says known)
+    our_may is_unfinished pair (Array []) says known = may message is rules.EmptyArray refl
+    our_may is_unfinished pair (Array (entry ∷ entries)) says known =
+        (any_entries 1 (entry ∷ entries) (opened message true (have_huge (entry ∷ entries)) pair.own), array_each pair entry entries says known)
 
     -- what may have been the answer to what is owed by now
     unsure_behind : (asker : Speaker) (reading : Reading) → AreOrderly asker.owed → Behind asker (record asker { unsure_up_to = asker.count }) reading
     unsure_behind asker reading orderly = record { orderly_after = orderly; leaves = λ q can. same_left q asker.refusals (open_in q asker.owed) (open_in q asker.owed) (answered_by q reading) (omega arith) }
 
-    pub our_behind : (is_unfinished : Bool) (pair : Pair) (reading : Reading) → AreOrderly pair.other.owed → Says reading → Expects pair.other reading
+    pub our_behind : (is_unfinished : Bool) (pair : Pair) (reading : Reading) → Says reading → AreOrderly pair.other.owed → Expects pair.other reading → guesses_by protocol is_unfinished message pair reading ≡ false
         → Behind pair.other (reading_outcome protocol is_unfinished message pair reading).pair.other reading
-    our_behind is_unfinished pair Foreign orderly says expects = absurd says
-    our_behind is_unfinished pair NotText orderly says expects = absurd says
-    our_behind is_unfinished pair NotJson orderly says expects = absurd says
-    our_behind is_unfinished pair OverLimits orderly says expects = unsure_behind pair.other OverLimits orderly
-    our_behind is_unfinished pair HalfPair orderly says expects = absurd says
-    our_behind is_unfinished pair (Single entry) orderly says expects = said_behind pair entry orderly says expects
-    our_behind is_unfinished pair (Array []) orderly says expects = nothing_behind pair.other (Array []) orderly
-    our_behind is_unfinished pair (Array (entry ∷ entries)) orderly says expects = array_behind pair entry entries orderly says expects
+    our_behind is_unfinished pair Foreign says orderly expects certain = absurd says
+    our_behind is_unfinished pair NotText says orderly expects certain = absurd says
+    our_behind is_unfinished pair NotJson says orderly expects certain = absurd says
+    our_behind is_unfinished pair OverLimits says orderly expects certain = unsure_behind pair.other OverLimits orderly
+    our_behind is_unfinished pair HalfPair says orderly expects certain = absurd says
+    our_behind is_unfinished pair (Single entry) says orderly expects certain = said_behind pair entry orderly says expects
+    our_behind is_unfinished pair (Array []) says orderly expects certain = nothing_behind pair.other (Array []) orderly
+    our_behind is_unfinished pair (Array (entry ∷ entries)) says orderly expects certain = array_behind pair entry entries says orderly expects certain

@@ -18,13 +18,13 @@ use Rattle.conversation_reading.specs.declared.reading.Reading.{Reading}
 use Rattle.conversation_reading.specs.declared.reading.Reading.TheVariants.{Foreign, NotText, NotJson, OverLimits, HalfPair, Single, Array}
 use Rattle.conversation_rules.specs.Amounts.{is_plain, is_null}
 use Rattle.conversation_rules.specs.Answers.{reply_of}
-use Rattle.conversation_rules.specs.Contents.{content_outcome, next_message, counted, sight_of, opened, have_huge, not_json_rule, are_answers, replies_in, reply_ids}
+use Rattle.conversation_rules.specs.Contents.{content_outcome, next_message, counted, sight_of, array_sight, opened, have_huge, not_json_rule, are_answers, replies_in, reply_ids}
 use Rattle.conversation_rules.specs.Dues.{is_asked}
 use Rattle.conversation_rules.specs.Entries.{is_request, is_answer, answer_id, is_both, form_findings, again_findings, request_findings, id_findings, behind_entry}
 use Rattle.conversation_rules.specs.Owed.{has_twice}
 use Rattle.conversation_rules.specs.Judging.{Seen, stream_of, state_of, fault_rule, fault_finding, fault_findings_of, fault_findings, unanswered_finding, is_excused, left_unanswered, unanswered_findings, findings_of}
 use Rattle.conversation_rules.specs.Protocols.{is_mcp, odd_id_level}
-use Rattle.conversation_rules.specs.Speakers.{Speaker, Pair, found, found_if}
+use Rattle.conversation_rules.specs.Speakers.{Speaker, Pair, found, found_if, is_broken}
 use Rattle.conversation_rules.specs.Used.{is_used}
 use Rattle.conversation_rules.specs.declared.finding.Finding.{Finding}
 use Rattle.conversation_rules.specs.declared.finding.Limits.{Limits}
@@ -34,6 +34,7 @@ use Rattle.conversation_rules.specs.declared.finding.Rule.TheVariants as rules
 use Rattle.conversation_rules.specs.declared.found.Unanswered.{Unanswered}
 use Rattle.conversation_rules.specs.declared.level.Level.TheVariants.{Must, Note}
 use Rattle.conversation_rules.specs.declared.protocol.Protocol.{Protocol}
+use Rattle.conversation_rules.specs.declared.reply.Sight.{Sight}
 use Rattle.conversation_rules.specs.declared.side.Side.{Side}
 use Rattle.conversation_rules.specs.declared.side.Side.TheVariants.{Client, Server}
 use Rattle.our_side.specs.Breaking.{same_side, tells_of, BreaksNone}
@@ -41,7 +42,7 @@ use Rattle.our_side.specs.Saying.{IsPlainId, IsSaid, AreSaid, IsWell}
 use Rattle.our_side.proofs.Plain.{whole, plain}
 use Rattle.our_side.proofs.Found.{Keeps, all_each}
 use Rattle.our_side.proofs.Streaming.{other, swap, Later, Grow}
-use Rattle.our_side.proofs.Walking.{Each, each-append, each_if, May, Hosts, Faulty, Answering, EntriesMay, ReadingMay, reading_each, single_each, answers_each}
+use Rattle.our_side.proofs.Walking.{Each, each-append, each_if, May, Hosts, Faulty, Answering, any_answering, EntriesMay, ReadingMay, reading_each, single_each, answers_each}
 
 -- ---- findings of the other side
 
@@ -66,15 +67,12 @@ their_hosts P message may = record {
   not_judged = may rules.NotJudged;
   line_end = may rules.LineEnd;
   batch = may rules.Batch;
+  params_object = may rules.ParamsObject;
+  result_object = may rules.ResultObject;
 }
 
-their_answering : (P : Finding → Type 0) (message : Message) → ((rule : Rule) → May P message rule) → Answering P message
-their_answering P message may = record {
-  not_owed = may rules.NotOwed;
-  not_as_array = may rules.NotAsArray;
-  cancelled_code = may rules.CancelledCode;
-  after_cancel = may rules.AfterCancel;
-}
+their_answering : (P : Finding → Type 0) (message : Message) → ((rule : Rule) → May P message rule) → (sight : Sight) → Answering P message sight
+their_answering P message may = any_answering P message (may rules.NotOwed) (may rules.NotAsArray) (may rules.CancelledCode) (may rules.AfterCancel)
 
 their_faulty : (P : Finding → Type 0) (message : Message) → ((rule : Rule) → May P message rule) → (entry : Entry) → Faulty P message entry
 their_faulty P message may entry = record {
@@ -139,12 +137,12 @@ module _ (P : Finding → Type 0) (message : Message) (may : (rule : Rule) → M
   their_reading protocol is_unfinished pair (Single entry) = (
     their_faulty P message may entry,
     ids_each P message (may rules.IdAgain) (may rules.IdFraction) (may rules.IdNull) (may rules.IdForm) protocol 0 false (opened message false entry.has_huge pair.own) entry,
-    none_each P (is_answer entry.kind) _ (single_each P message (their_answering P message may) protocol (sight_of pair) (reply_of protocol pair.other.owed 0 entry) (answer_id protocol entry) pair.other.owed),
+    none_each P (is_answer entry.kind) _ (single_each P message (sight_of pair) (their_answering P message may (sight_of pair)) protocol (reply_of protocol pair.other.owed 0 entry) (answer_id protocol entry) pair.other.owed),
   )
   their_reading protocol is_unfinished pair (Array []) = may rules.EmptyArray
   their_reading protocol is_unfinished pair (Array (entry ∷ entries)) = (
     their_entries protocol 1 (entry ∷ entries) (opened message true (have_huge (entry ∷ entries)) pair.own),
-    answers_each P message (their_answering P message may) protocol (sight_of pair) (are_answers (entry ∷ entries)) (replies_in protocol pair.other.owed 1 (entry ∷ entries)) (reply_ids (entry ∷ entries)) pair.other.owed,
+    answers_each P message (array_sight pair (reply_ids (entry ∷ entries))) (their_answering P message may (array_sight pair (reply_ids (entry ∷ entries)))) protocol (are_answers (entry ∷ entries)) (replies_in protocol pair.other.owed 1 (entry ∷ entries)) (reply_ids (entry ∷ entries)) pair.other.owed,
   )
 
 pub their_content : (side : Side) (those : Rule → Bool) (protocol : Protocol) (is_unfinished : Bool) (placed : ℕ × Frame) (pair : Pair)
@@ -171,8 +169,8 @@ left_each : (P : Finding → Type 0) (side : Side) (end : HowEnded) (broken : Bo
 left_each P side end broken [] is = tt
 left_each P side end broken (u ∷ all) is = (is u, left_each P side end broken all is)
 
-pub unanswered_each : (P : Finding → Type 0) (protocol : Protocol) (side : Side) (end : HowEnded) (pair : Pair) → ((u : Unanswered) → P (unanswered_finding side end (pair.own.is_over || pair.other.is_over) u)) → Each P (unanswered_findings protocol side end pair)
-unanswered_each P protocol side end pair is = or_each P (is_excused protocol side pair) [] _ tt (left_each P side end (pair.own.is_over || pair.other.is_over) (left_unanswered pair.other) is)
+pub unanswered_each : (P : Finding → Type 0) (protocol : Protocol) (side : Side) (end : HowEnded) (pair : Pair) → ((u : Unanswered) → P (unanswered_finding side end (is_broken pair) u)) → Each P (unanswered_findings protocol side end pair)
+unanswered_each P protocol side end pair is = or_each P (is_excused protocol side pair) [] _ tt (left_each P side end (is_broken pair) (left_unanswered pair.other) is)
 
 -- ---- our own side
 
@@ -194,6 +192,8 @@ pub record IsFair (those : Rule → Bool) : Type 0 where
   pub not_judged : those rules.NotJudged ≡ false
   pub line_end : those rules.LineEnd ≡ false
   pub batch : those rules.Batch ≡ false
+  pub params_object : those rules.ParamsObject ≡ false
+  pub result_object : those rules.ResultObject ≡ false
   pub cut_off : those rules.CutOff ≡ false
   pub unanswered : those rules.Unanswered ≡ false
   pub cancelled_code : those rules.CancelledCode ≡ false
@@ -209,6 +209,8 @@ own_hosts side those message is fair = record {
   not_judged = own_may side those message is rules.NotJudged fair.not_judged;
   line_end = own_may side those message is rules.LineEnd fair.line_end;
   batch = own_may side those message is rules.Batch fair.batch;
+  params_object = own_may side those message is rules.ParamsObject fair.params_object;
+  result_object = own_may side those message is rules.ResultObject fair.result_object;
 }
 
 -- an entry without a fault tells of none
@@ -274,13 +276,10 @@ module _ (side : Side) (those : Rule → Bool) (fair : IsFair those) (again : th
   P = Silent side those
 
   module _ (message : Message) (is : message.side ≡ side) where
-    our_answering : Answering P message
-    our_answering = record {
-      not_owed = own_may side those message is rules.NotOwed not_owed;
-      not_as_array = own_may side those message is rules.NotAsArray not_as_array;
-      cancelled_code = own_may side those message is rules.CancelledCode fair.cancelled_code;
-      after_cancel = own_may side those message is rules.AfterCancel fair.after_cancel;
-    }
+    our_answering : (sight : Sight) → Answering P message sight
+    our_answering =
+        any_answering P message (own_may side those message is rules.NotOwed not_owed) (own_may side those message is rules.NotAsArray not_as_array)
+        (own_may side those message is rules.CancelledCode fair.cancelled_code) (own_may side those message is rules.AfterCancel fair.after_cancel)
 
     our_ids : (at : ℕ) (in_batch : Bool) (own : Speaker) (entry : Entry) → IsSaid entry → Each P (id_findings protocol message at in_batch own entry)
     our_ids at in_batch own entry said =
@@ -300,12 +299,12 @@ module _ (side : Side) (those : Rule → Bool) (fair : IsFair those) (again : th
     our_reading is_unfinished pair (Single entry) said = (
       faultless P message entry said.faultless said.one_kind said.once,
       our_ids 0 false (opened message false entry.has_huge pair.own) entry said,
-      none_each P (is_answer entry.kind) _ (single_each P message our_answering protocol (sight_of pair) (reply_of protocol pair.other.owed 0 entry) (answer_id protocol entry) pair.other.owed),
+      none_each P (is_answer entry.kind) _ (single_each P message (sight_of pair) (our_answering (sight_of pair)) protocol (reply_of protocol pair.other.owed 0 entry) (answer_id protocol entry) pair.other.owed),
     )
     our_reading is_unfinished pair (Array []) well = absurd well
     our_reading is_unfinished pair (Array (entry ∷ entries)) said = (
       our_entries 1 (entry ∷ entries) (opened message true (have_huge (entry ∷ entries)) pair.own) said,
-      answers_each P message our_answering protocol (sight_of pair) (are_answers (entry ∷ entries)) (replies_in protocol pair.other.owed 1 (entry ∷ entries)) (reply_ids (entry ∷ entries)) pair.other.owed,
+      answers_each P message (array_sight pair (reply_ids (entry ∷ entries))) (our_answering (array_sight pair (reply_ids (entry ∷ entries)))) protocol (are_answers (entry ∷ entries)) (replies_in protocol pair.other.owed 1 (entry ∷ entries)) (reply_ids (entry ∷ entries)) pair.other.owed,
     )
 
   our_content : (is_unfinished : Bool) (placed : ℕ × Frame) (pair : Pair) → IsWell (limited_reading placed.1.foreign placed.1.content) → Each P (content_outcome protocol side is_unfinished placed pair).findings

@@ -1,7 +1,7 @@
 -- A connection answers units that are no batches by single messages, and batches by arrays, each once.
-use Rattle.std.proofs.Common.{◌≡◌, ◌==◌, ◌&&◌, ◌||◌, not, ℕ, zero, suc, ◌+◌, ◌≤◌, Bool, true, false, cond, List, [], ◌∷◌, ◌++◌, length, map, get_or, Option, Some, None, option_map, refl, ap, ◌∙◌, arith}
+use Rattle.std.proofs.Common.{◌≡◌, ◌⊎◌, inl, inr, ◌==◌, ◌&&◌, ◌||◌, not, ℕ, zero, suc, ◌+◌, ◌-◌, ◌≤◌, Bool, true, false, if◌then◌else◌, cond, List, [], ◌∷◌, ◌++◌, length, map, get_or, Option, Some, None, option_map, refl, sym, ap, ◌∙◌, arith}
 use Rattle.std.proofs.lemmas.List.{map-append}
-use Rattle.std.specs.Prelude.{◌≢◌, slice_get, option_to_list}
+use Rattle.std.specs.Prelude.{⊤, ◌≢◌, slice_get, option_to_list}
 use Rattle.connection_history.specs.declared.refused.Refused.TheVariants.{NotOpen, Empty}
 use Rattle.message_ids.specs.declared.id.Id.{Id}
 use Rattle.connection_messages.specs.declared.answer.Answer.{Answer}
@@ -14,12 +14,12 @@ use Rattle.connection_messages.specs.declared.unit.Unit.TheVariants.{Unreadable,
 use Rattle.connection.specs.BackToBack.{answer, said_at, given_to, answer_in, answers_in, in_one, answer_of, answers_along, messages_of}
 use Rattle.connection_history.specs.Answers.{Texts, both, texts_of, call_texts, entry_texts, texts_along, due_from, due_of, dues_along, text}
 use Rattle.connection_history.specs.declared.order.Order.{Order}
-use Rattle.connection_history.specs.Stream.{entries_in, call_in, calls_in}
-use Rattle.connection_history.specs.History.{Happening, came, called, called_all, noticed, withdrew, answered, ended, History, or_else, units_of, units_at, is_open, answer_at, answer_to}
+use Rattle.connection_history.specs.Stream.{entries_in, entries_along, call_in, calls_in, request_id, after_call, cancels as are_named, is_cancelled}
+use Rattle.connection_history.specs.History.{Happening, came, called, called_all, noticed, withdrew, answered, ended, History, or_else, units_of, units_at, stream, is_open, answer_at, answer_to}
 use Rattle.connection_history.specs.Items.{items_of}
 use Rattle.connection_history.specs.Refusals.{first_of, has_cancels, may_be_left, IsLawful}
 use Rattle.connection_history.specs.Written.{answers_of}
-use Rattle.our_side.specs.Answered.{AreAnsweredWhole, OfCall, OfUnit, OfUnits, OfSingleCalls, id_due, ids_due, passing, alone_at, came_alone, came_together, said_alone, said_together, total}
+use Rattle.our_side.specs.Answered.{AreAnsweredWhole, any_cancel, has_ids, OfCall, OfUnit, OfUnits, OfSingleCalls, id_due, ids_due, passing, alone_at, came_alone, came_together, said_alone, said_together, total}
 use Rattle.our_side.specs.Asked.{as_number}
 use Rattle.our_side.proofs.Placing.{AreFew, all_counted}
 
@@ -124,6 +124,82 @@ module _ (test : Id × Answer → Bool) (may : Id → Bool) where
   pub alone_once : (order : Order) (history : History) → OfSingleCalls May history → WrittenOnce order history → total (said_alone test) (messages_of order history) ≤ total (came_alone test may) (units_of history)
   alone_once order history passes once = all_counted (said_alone test) (came_alone test may) order none_alone history (alone_few history passes) once
 
+-- ---- arrays
+
+or_few : (a b c d : Bool) → as_number a ≤ as_number c → as_number b ≤ as_number d → as_number (a || b) ≤ as_number (c || d)
+or_few a b true d first second = most_one (a || b)
+  where
+    most_one : (e : Bool) → as_number e ≤ 1
+    most_one true = omega arith
+    most_one false = omega arith
+or_few true b false d first second = absurd (omega (arith, first))
+or_few false b false d first second = second
+
+has_append : (xs ys : List Id) → has_ids (xs ++ ys) ≡ has_ids xs || has_ids ys
+has_append [] ys = refl
+has_append (x ∷ xs) ys = refl
+
+abbrev ids_in : List (Id × Answer) → List Id
+ids_in xs = map (λ a. a.0) xs
+
+given_has : (o : Option Id) (given : Option (Option Answer)) → as_number (has_ids (ids_in (given_to o given))) ≤ as_number (has_ids (option_to_list o))
+given_has None given = omega arith
+given_has (Some id) None = omega arith
+given_has (Some id) (Some None) = omega arith
+given_has (Some id) (Some (Some a)) = omega arith
+
+-- what has an answer is due one
+entry_has : (history : History) (n : ℕ) (e : Entry) → as_number (has_ids (ids_in (answer_in history n e))) ≤ as_number (has_ids (id_due e))
+entry_has history n (Call c) = given_has c.id (answer_to n history)
+entry_has history n (Cancel id) = omega arith
+entry_has history n (Reply k r) = omega arith
+entry_has history n Stray = omega arith
+entry_has history n Invalid = omega arith
+
+entries_have : (history : History) (n : ℕ) (es : List Entry) → as_number (has_ids (ids_in (answers_in history n es))) ≤ as_number (has_ids (ids_due es))
+entries_have history n [] = omega arith
+entries_have history n (e ∷ es) =
+    let here = ids_in (answer_in history n e) in
+    let there = ids_in (answers_in history (n + length (call_in e)) es) in
+    let both_few = or_few (has_ids here) (has_ids there) (has_ids (id_due e)) (has_ids (ids_due es)) (entry_has history n e) (entries_have history (n + length (call_in e)) es) in
+    let said = ap (λ ids. as_number (has_ids ids)) (map-append (λ a. a.0) (answer_in history n e) (answers_in history (n + length (call_in e)) es)) ∙ ap as_number (has_append here there) in
+    let due = ap as_number (has_append (id_due e) (ids_due es)) in
+    omega (arith, both_few, said, due)
+
+one_array : (xs : List (Id × Answer)) → total (said_together has_ids) (in_one xs) ≤ as_number (has_ids (ids_in xs))
+one_array [] = omega arith
+one_array (x ∷ xs) = omega arith
+
+no_array : (test : List Id → Bool) (xs : List (Id × Answer)) → total (said_together test) (map (λ a. answer a.0 a.1) xs) ≡ 0
+no_array test [] = refl
+no_array test (x ∷ xs) = let rest = no_array test xs in omega (arith, rest)
+
+unit_array : (history : History) (n : ℕ) (u : Unit) → total (said_together has_ids) (answer_of history n u) ≤ came_together has_ids u
+unit_array history n Unreadable = omega arith
+unit_array history n (Single e) = let none = no_array has_ids (answer_in history n e) in omega (arith, none)
+unit_array history n (Batch es) = let one = one_array (answers_in history n es) in let few = entries_have history n es in omega (arith, one, few)
+
+along_array : (history : History) (n : ℕ) (us : List Unit) (place : ℕ) → total (said_together has_ids) (get_or (answers_along history n us) place []) ≤ get_or (map (came_together has_ids) us) place 0
+along_array history n [] place = omega arith
+along_array history n (u ∷ us) zero = unit_array history n u
+along_array history n (u ∷ us) (suc place) = along_array history (n + length (calls_in (entries_in u))) us place
+
+arrays_few : (history : History) → AreFew (said_together has_ids) (came_together has_ids) history
+arrays_few [] = tt
+arrays_few (h ∷ past) = (λ place is_out. along_array (h ∷ past) 1 (units_of (h ∷ past)) place, arrays_few past)
+
+none_together : (test : List Id → Bool) (past : History) (h : Happening) → total (said_together test) (said_at past h) ≡ 0
+none_together test past (came o u) = refl
+none_together test past (called n o) = refl
+none_together test past (called_all n os) = refl
+none_together test past (noticed o) = refl
+none_together test past (withdrew by k) = refl
+none_together test past (answered n a) = refl
+none_together test past (ended close) = refl
+
+pub arrays_once : (order : Order) (history : History) → WrittenOnce order history → total (said_together has_ids) (messages_of order history) ≤ total (came_together has_ids) (units_of history)
+arrays_once order history once = all_counted (said_together has_ids) (came_together has_ids) order (none_together has_ids) history (arrays_few history) once
+
 -- ---- without MCP's cancels no request is closed without an answer
 
 left_passed : (closed left : Bool) → first_of ((closed, NotOpen) ∷ (true && not left, Empty) ∷ []) ≡ None → left ≡ true
@@ -159,7 +235,84 @@ module _ (cancels : Option Cancels) (other : cancels ≢ Some Mcp) where
   never_left [] n lawful is = cc
   never_left (h ∷ past) n lawful is = left_from n past h (answer_to n past) (never_left past n lawful.1) lawful is
 
--- ---- arrays
+-- ---- nor where no cancel came
+
+any_targets : (id : Option Id) (es : List Entry) → are_named id es ≡ true → any_cancel es ≡ true
+any_targets id [] is = is
+any_targets id (Call c ∷ es) is = any_targets id es is
+any_targets id (Cancel target ∷ es) is = refl
+any_targets id (Reply k r ∷ es) is = any_targets id es is
+any_targets id (Stray ∷ es) is = any_targets id es is
+any_targets id (Invalid ∷ es) is = any_targets id es is
+
+any_after : (n : ℕ) (es : List Entry) → any_cancel (after_call n es) ≡ true → any_cancel es ≡ true
+any_after n [] is = is
+any_after n (Call c ∷ es) is = from (n == 1) (any_after (n - 1) es) is
+  where
+    from : (b : Bool) → (any_cancel (after_call (n - 1) es) ≡ true → any_cancel es ≡ true) → any_cancel (if b then es else after_call (n - 1) es) ≡ true → any_cancel es ≡ true
+    from true later any = any
+    from false later any = later any
+any_after n (Cancel id ∷ es) is = refl
+any_after n (Reply k r ∷ es) is = any_after n es is
+any_after n (Stray ∷ es) is = any_after n es is
+any_after n (Invalid ∷ es) is = any_after n es is
+
+right_true : (b c : Bool) → (b && c) ≡ true → c ≡ true
+right_true true c is = is
+right_true false c is = absurd (let no : false ≡ true = is in cc)
+
+not_left : (cancels : Option Cancels) (m : ℕ) (past : History) → any_cancel (stream past) ≡ false → may_be_left cancels m past ≡ true → ⊥
+not_left cancels m past quiet may =
+    let any = any_after m (stream past) (any_targets (request_id m (stream past)) (after_call m (stream past)) (right_true (has_cancels Mcp cancels) (is_cancelled m (stream past)) may)) in
+    (let no : true ≡ false = sym any ∙ quiet in cc)
+
+any_front : (xs ys : List Entry) → any_cancel (xs ++ ys) ≡ false → (any_cancel xs ≡ false) × (any_cancel ys ≡ false)
+any_front [] ys none = (refl, none)
+any_front (Call c ∷ xs) ys none = any_front xs ys none
+any_front (Cancel id ∷ xs) ys none = absurd (let no : true ≡ false = none in cc)
+any_front (Reply k r ∷ xs) ys none = any_front xs ys none
+any_front (Stray ∷ xs) ys none = any_front xs ys none
+any_front (Invalid ∷ xs) ys none = any_front xs ys none
+
+any_both : (xs ys : List Entry) → any_cancel xs ≡ false → any_cancel ys ≡ false → any_cancel (xs ++ ys) ≡ false
+any_both [] ys first second = second
+any_both (Call c ∷ xs) ys first second = any_both xs ys first second
+any_both (Cancel id ∷ xs) ys first second = first
+any_both (Reply k r ∷ xs) ys first second = any_both xs ys first second
+any_both (Stray ∷ xs) ys first second = any_both xs ys first second
+any_both (Invalid ∷ xs) ys first second = any_both xs ys first second
+
+quiet_front : (us more : List Unit) → any_cancel (entries_along (us ++ more)) ≡ false → any_cancel (entries_along us) ≡ false
+quiet_front [] more quiet = refl
+quiet_front (u ∷ us) more quiet =
+    let parts = any_front (entries_in u) (entries_along (us ++ more)) quiet in
+    any_both (entries_in u) (entries_along us) parts.0 (quiet_front us more parts.1)
+
+quiet_past : (h : Happening) (past : History) → any_cancel (stream (h ∷ past)) ≡ false → any_cancel (stream past) ≡ false
+quiet_past h past quiet = quiet_front (units_of past) (units_at h) quiet
+
+module _ (cancels : Option Cancels) where
+  quiet_at : (n : ℕ) (past : History) (h : Happening) → any_cancel (stream past) ≡ false → IsLawful cancels (h ∷ past) → answer_at n h ≡ Some None → ⊥
+  quiet_at n past (came o u) quiet lawful is = cc
+  quiet_at n past (called m o) quiet lawful is = cc
+  quiet_at n past (called_all m os) quiet lawful is = cc
+  quiet_at n past (noticed o) quiet lawful is = cc
+  quiet_at n past (withdrew by k) quiet lawful is = cc
+  quiet_at n past (answered m None) quiet lawful is = not_left cancels m past quiet (left_passed ((m == 0) || not (is_open m past)) (may_be_left cancels m past) lawful.0)
+  quiet_at n past (answered m (Some a)) quiet lawful is = chosen_none (m == n) a is
+  quiet_at n past (ended close) quiet lawful is = cc
+
+  quiet_from : (n : ℕ) (past : History) (h : Happening) (o : Option (Option Answer)) → (o ≡ Some None → ⊥) → any_cancel (stream past) ≡ false → IsLawful cancels (h ∷ past) → or_else o (answer_at n h) ≡ Some None → ⊥
+  quiet_from n past h None earlier quiet lawful is = quiet_at n past h quiet lawful is
+  quiet_from n past h (Some a) earlier quiet lawful is = earlier is
+
+  quiet_left : (history : History) (n : ℕ) → any_cancel (stream history) ≡ false → IsLawful cancels history → answer_to n history ≡ Some None → ⊥
+  quiet_left [] n quiet lawful is = cc
+  quiet_left (h ∷ past) n quiet lawful is =
+      let before = quiet_past h past quiet in
+      quiet_from n past h (answer_to n past) (quiet_left past n before lawful.1) before lawful is
+
+-- ---- arrays with all ids
 
 first_whole : (cancels : Option Cancels) (u : Unit) (us : List Unit) → AreAnsweredWhole cancels (u ∷ us) → AreAnsweredWhole cancels (u ∷ []) × AreAnsweredWhole cancels us
 first_whole cancels Unreadable us whole = (tt, whole)
@@ -213,45 +366,71 @@ module _ (history : History) where
     array_ids [] ids is = omega arith
     array_ids (x ∷ xs) ids is = let same : as_number (test (map (λ a. a.0) (x ∷ xs))) ≡ as_number (test ids) = ap (λ all. as_number (test all)) is in omega (arith, same)
 
-    single_none : (xs : List (Id × Answer)) → total (said_together test) (map (λ a. answer a.0 a.1) xs) ≡ 0
-    single_none [] = refl
-    single_none (x ∷ xs) = let rest = single_none xs in omega (arith, rest)
-
     due_some : (u : Unit) (texts : Texts) (t : List ℕ) → due_from u texts ≡ text t → (ts : List (List ℕ)) × (texts ≡ Some ts)
     due_some u None t is = absurd (cc)
     due_some u (Some ts) t is = (ts, refl)
 
-    module _ (cancels : Option Cancels) (lawful : IsLawful cancels history) where
-      unit_together : (n : ℕ) (u : Unit) (t : List ℕ) → AreAnsweredWhole cancels (u ∷ []) → due_of history n u ≡ text t → total (said_together test) (answer_of history n u) ≤ came_together test u
-      unit_together n Unreadable t whole is = omega arith
-      unit_together n (Single e) t whole is = let none = single_none (answer_in history n e) in omega (arith, none)
-      unit_together n (Batch es) t whole is =
-          let due = due_some (Batch es) (texts_along history n es) t is in
-          array_ids (answers_in history n es) (ids_due es) (all_ids (λ k. never_left cancels whole.0 history k lawful) n es due.0 due.1)
+    -- no call of a batch was closed without an answer
+    abbrev KeptIn : Unit → Type 0
+    KeptIn Unreadable = ⊤
+    KeptIn (Single e) = ⊤
+    KeptIn (Batch es) = (n : ℕ) → answer_to n history ≡ Some None → ⊥
 
-      along_together : (n : ℕ) (us : List Unit) (place : ℕ) (t : List ℕ) → AreAnsweredWhole cancels us → slice_get (dues_along history n us) place ≡ Some (text t)
-          → total (said_together test) (get_or (answers_along history n us) place []) ≤ get_or (map (came_together test) us) place 0
-      along_together n [] place t whole is = omega arith
-      along_together n (u ∷ us) zero t whole is = unit_together n u t (first_whole cancels u us whole).0 (let same : due_of history n u ≡ text t = cc in same)
-      along_together n (u ∷ us) (suc place) t whole is = along_together (n + length (calls_in (entries_in u))) us place t (first_whole cancels u us whole).1 is
+    abbrev AllKept : List Unit → Type 0
+    AllKept [] = ⊤
+    AllKept (u ∷ us) = KeptIn u × AllKept us
+
+    unit_together : (n : ℕ) (u : Unit) (t : List ℕ) → KeptIn u → due_of history n u ≡ text t → total (said_together test) (answer_of history n u) ≤ came_together test u
+    unit_together n Unreadable t kept is = omega arith
+    unit_together n (Single e) t kept is = let none = no_array test (answer_in history n e) in omega (arith, none)
+    unit_together n (Batch es) t kept is =
+        let due = due_some (Batch es) (texts_along history n es) t is in
+        array_ids (answers_in history n es) (ids_due es) (all_ids kept n es due.0 due.1)
+
+    along_together : (n : ℕ) (us : List Unit) (place : ℕ) (t : List ℕ) → AllKept us → slice_get (dues_along history n us) place ≡ Some (text t)
+        → total (said_together test) (get_or (answers_along history n us) place []) ≤ get_or (map (came_together test) us) place 0
+    along_together n [] place t kept is = omega arith
+    along_together n (u ∷ us) zero t kept is = unit_together n u t kept.0 (let same : due_of history n u ≡ text t = cc in same)
+    along_together n (u ∷ us) (suc place) t kept is = along_together (n + length (calls_in (entries_in u))) us place t kept.1 is
+
+    whole_in : (cancels : Option Cancels) → IsLawful cancels history → (u : Unit) → AreAnsweredWhole cancels (u ∷ []) → KeptIn u
+    whole_in cancels lawful Unreadable whole = tt
+    whole_in cancels lawful (Single e) whole = tt
+    whole_in cancels lawful (Batch es) whole = λ k. never_left cancels whole.0 history k lawful
+
+    whole_kept : (cancels : Option Cancels) → IsLawful cancels history → (us : List Unit) → AreAnsweredWhole cancels us → AllKept us
+    whole_kept cancels lawful [] whole = tt
+    whole_kept cancels lawful (u ∷ us) whole = let parts = first_whole cancels u us whole in (whole_in cancels lawful u parts.0, whole_kept cancels lawful us parts.1)
+
+    quiet_in : (cancels : Option Cancels) → IsLawful cancels history → any_cancel (stream history) ≡ false → (u : Unit) → KeptIn u
+    quiet_in cancels lawful quiet Unreadable = tt
+    quiet_in cancels lawful quiet (Single e) = tt
+    quiet_in cancels lawful quiet (Batch es) = λ k. quiet_left cancels history k quiet lawful
+
+    quiet_kept : (cancels : Option Cancels) → IsLawful cancels history → any_cancel (stream history) ≡ false → (us : List Unit) → AllKept us
+    quiet_kept cancels lawful quiet [] = tt
+    quiet_kept cancels lawful quiet (u ∷ us) = (quiet_in cancels lawful quiet u, quiet_kept cancels lawful quiet us)
+
+-- no answer can be taken out of an array, or none was
+abbrev IsKept : Option Cancels → History → Type 0
+IsKept cancels history = AreAnsweredWhole cancels (units_of history) ⊎ (any_cancel (stream history) ≡ false)
+
+kept_past : (cancels : Option Cancels) (h : Happening) (past : History) → IsKept cancels (h ∷ past) → IsKept cancels past
+kept_past cancels h past (inl whole) = inl (whole_front cancels (units_of past) (units_at h) whole)
+kept_past cancels h past (inr quiet) = inr (quiet_past h past quiet)
 
 module _ (test : List Id → Bool) where
-  together_few : (cancels : Option Cancels) (history : History) → IsLawful cancels history → AreAnsweredWhole cancels (units_of history) → AreFew (said_together test) (came_together test) history
-  together_few cancels [] lawful whole = tt
-  together_few cancels (h ∷ past) lawful whole = (
-    λ place is_out. along_together (h ∷ past) test cancels lawful 1 (units_of (h ∷ past)) place is_out.0 whole is_out.1,
-    together_few cancels past lawful.1 (whole_front cancels (units_of past) (units_at h) whole),
+  all_kept : (cancels : Option Cancels) (history : History) → IsLawful cancels history → IsKept cancels history → AllKept history test (units_of history)
+  all_kept cancels history lawful (inl whole) = whole_kept history test cancels lawful (units_of history) whole
+  all_kept cancels history lawful (inr quiet) = quiet_kept history test cancels lawful quiet (units_of history)
+
+  together_few : (cancels : Option Cancels) (history : History) → IsLawful cancels history → IsKept cancels history → AreFew (said_together test) (came_together test) history
+  together_few cancels [] lawful kept = tt
+  together_few cancels (h ∷ past) lawful kept = (
+    λ place is_out. along_together (h ∷ past) test 1 (units_of (h ∷ past)) place is_out.0 (all_kept cancels (h ∷ past) lawful kept) is_out.1,
+    together_few cancels past lawful.1 (kept_past cancels h past kept),
   )
 
-  none_together : (past : History) (h : Happening) → total (said_together test) (said_at past h) ≡ 0
-  none_together past (came o u) = refl
-  none_together past (called n o) = refl
-  none_together past (called_all n os) = refl
-  none_together past (noticed o) = refl
-  none_together past (withdrew by k) = refl
-  none_together past (answered n a) = refl
-  none_together past (ended close) = refl
-
-  pub together_once : (cancels : Option Cancels) (order : Order) (history : History) → IsLawful cancels history → AreAnsweredWhole cancels (units_of history) → WrittenOnce order history
+  pub together_once : (cancels : Option Cancels) (order : Order) (history : History) → IsLawful cancels history → IsKept cancels history → WrittenOnce order history
       → total (said_together test) (messages_of order history) ≤ total (came_together test) (units_of history)
-  together_once cancels order history lawful whole once = all_counted (said_together test) (came_together test) order none_together history (together_few cancels history lawful whole) once
+  together_once cancels order history lawful kept once = all_counted (said_together test) (came_together test) order (none_together test) history (together_few cancels history lawful kept) once

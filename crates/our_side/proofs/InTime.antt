@@ -1,12 +1,14 @@
 -- A connection is accused of no answer, where it refuses what is too large, or takes each batch whole.
-use Rattle.std.proofs.Common.{◌≡◌, ℕ, zero, suc, ◌≤◌, Bool, true, false, if◌then◌else◌, List, [], ◌∷◌, ◌++◌, map, take, length, Option, None, refl, sym, ap, subst, ◌∙◌, arith, append-nil}
+use Rattle.std.proofs.Common.{◌≡◌, ◌⊎◌, inl, inr, ℕ, zero, suc, ◌≤◌, Bool, true, false, if◌then◌else◌, List, [], ◌∷◌, ◌++◌, map, take, length, Option, None, refl, sym, ap, subst, ◌∙◌, arith, append-nil}
 use Rattle.std.specs.Prelude.{is_some}
 use Rattle.lsp_frames.specs.declared.frame.Frame.{Frame}
-use Rattle.connection.specs.BackToBack.{Message, messages_of, whole_count, text_of}
+use Rattle.connection.specs.BackToBack.{Message, call, calls, notice, withdrawal, answer, answers, messages_of, whole_count, text_of}
 use Rattle.connection.specs.Connections.{Connection, read}
 use Rattle.connection.specs.Settings.{Chosen, rules_of}
-use Rattle.connection_history.specs.History.{History, units_of}
+use Rattle.connection_history.specs.History.{History, stream, units_of}
 use Rattle.connection_history.specs.Refusals.{IsLawful}
+use Rattle.connection_history.specs.Stream.{entries_along}
+use Rattle.connection_messages.specs.declared.unit.Unit.{Unit}
 use Rattle.connection_messages.specs.declared.answer.Answer.{Answer}
 use Rattle.connection_messages.specs.declared.cancels.Cancels.{Cancels}
 use Rattle.connection_history.specs.declared.order.Order.{Order}
@@ -23,10 +25,10 @@ use Rattle.conversation_rules.specs.declared.protocol.Protocol.{Protocol}
 use Rattle.conversation_rules.specs.declared.side.Side.{Side}
 use Rattle.conversation_rules.specs.declared.side.Side.TheVariants.{Client, Server}
 use Rattle.message_ids.specs.declared.id.Id.{Id}
-use Rattle.our_side.specs.Answered.{AreAnsweredWhole, OfSingleCalls, came_alone, came_together, said_alone, said_together, total}
-use Rattle.our_side.specs.Asked.{AllSay, Question, CanBeAsked, asked_in, answered_in, judged}
+use Rattle.our_side.specs.Answered.{AreAnsweredWhole, any_cancel, has_ids, OfSingleCalls, came_alone, came_together, said_alone, said_together, total}
+use Rattle.our_side.specs.Asked.{AllSay, Question, alone, together, by_array, under_null, CanBeAsked, asked_in, answered_in, leaves_in, IsNoMore, judged}
 use Rattle.our_side.specs.OurSide.{seen_of, IsInTime, AllTaken}
-use Rattle.our_side.proofs.Asking.{counts, may_count, may_pass, counts_all, TakenEach, asked_each, each_taken, each_asked, first_taken as first_frames, first_asked, units_whole, units_few}
+use Rattle.our_side.proofs.Asking.{counts, may_count, may_pass, counts_all, TakenEach, asked_each, leaves_each, each_taken, each_asked, each_leaves, first_taken as first_frames, first_asked, first_leaves, units_kept, units_few}
 use Rattle.our_side.proofs.Forms.{calls_all}
 use Rattle.our_side.proofs.Plainly.{later_of}
 use Rattle.our_side.proofs.Replying.{SayEach, answered_each, all_say, each_answered, first_answered, messages_say, messages_few}
@@ -93,12 +95,23 @@ judged_is protocol framing limits seen side =
 pub record AnswersOnce : Type 0 where
   pub alone : (order : Order) (history : History) (test : Id × Answer → Bool) (may : Id → Bool) → OfSingleCalls (λ id a. test (id, a) ≡ true → may id ≡ true) history
       → total (said_alone test) (messages_of order history) ≤ total (came_alone test may) (units_of history)
-  pub together : (cancels : Option Cancels) (order : Order) (history : History) → IsLawful cancels history → AreAnsweredWhole cancels (units_of history) → (test : List Id → Bool)
+  pub together : (cancels : Option Cancels) (order : Order) (history : History) → IsLawful cancels history → AreAnsweredWhole cancels (units_of history) ⊎ (any_cancel (stream history) ≡ false) → (test : List Id → Bool)
       → total (said_together test) (messages_of order history) ≤ total (came_together test) (units_of history)
+  pub arrays : (order : Order) (history : History) → total (said_together has_ids) (messages_of order history) ≤ total (came_together has_ids) (units_of history)
+
+-- where no array counts
+none_counts : (ms : List Message) → total (said_together (λ ids. false)) ms ≡ 0
+none_counts [] = refl
+none_counts (call key o ∷ ms) = let rest = none_counts ms in omega (arith, rest)
+none_counts (calls key os ∷ ms) = let rest = none_counts ms in omega (arith, rest)
+none_counts (notice o ∷ ms) = let rest = none_counts ms in omega (arith, rest)
+none_counts (withdrawal by key ∷ ms) = let rest = none_counts ms in omega (arith, rest)
+none_counts (answer id a ∷ ms) = let rest = none_counts ms in omega (arith, rest)
+none_counts (answers all ∷ ms) = let rest = none_counts ms in omega (arith, rest)
 
 module _ (laws : Laws) (once : AnswersOnce) (protocol : Protocol) (framing : Framing) (limits : Limits) (side : Side) (connection : Connection) (history : History) (before : List Seen)
     (it : IsInTime protocol framing limits side connection history before)
-    (taken : AllTaken connection.settings (placed_contents (seen_of protocol framing limits before (other side)))) where
+    (taken : AllTaken protocol connection.settings (placed_contents (seen_of protocol framing limits before (other side)))) where
   abbrev ours : Stream
   ours = seen_of protocol framing limits before side
 
@@ -111,11 +124,25 @@ module _ (laws : Laws) (once : AnswersOnce) (protocol : Protocol) (framing : Fra
   frames_are : map (λ placed. placed.1) (placed_contents theirs) ≡ contents theirs
   frames_are = laws.placed theirs.framing theirs.limit theirs.pieces theirs.ended
 
-  came_taken : TakenEach connection.settings came
-  came_taken = first_frames connection.settings (length (units_of it.past)) (contents theirs) (subst (TakenEach connection.settings) frames_are (each_taken connection.settings (placed_contents theirs) taken))
+  came_taken : TakenEach protocol connection.settings came
+  came_taken =
+      first_frames protocol connection.settings (length (units_of it.past)) (contents theirs)
+      (subst (TakenEach protocol connection.settings) frames_are (each_taken protocol connection.settings (placed_contents theirs) taken))
 
-  answered_whole : AreAnsweredWhole it.earlier.settings.cancels (units_of it.past)
-  answered_whole = subst (λ s. AreAnsweredWhole s.cancels (units_of it.past)) (sym it.settings) (subst (AreAnsweredWhole connection.settings.cancels) (sym it.came) (units_whole connection.settings came came_taken))
+  leaves_few : leaves_each protocol came ≤ leaves_in protocol (placed_contents theirs)
+  leaves_few =
+      let first = first_leaves protocol (length (units_of it.past)) (contents theirs) in
+      let all : leaves_each protocol (contents theirs) ≡ leaves_in protocol (placed_contents theirs) = ap (leaves_each protocol) (sym frames_are) ∙ each_leaves protocol (placed_contents theirs) in
+      omega (arith, first, all)
+
+  abbrev AreKept : Option Cancels → List Unit → Type 0
+  AreKept cancels us = AreAnsweredWhole cancels us ⊎ (any_cancel (entries_along us) ≡ false)
+
+  -- no request was left where no cancel came
+  are_kept : leaves_in protocol (placed_contents theirs) ≡ 0 → AreKept it.earlier.settings.cancels (units_of it.past)
+  are_kept none =
+      subst (λ s. AreKept s.cancels (units_of it.past)) (sym it.settings)
+      (subst (AreKept connection.settings.cancels) (sym it.came) (units_kept protocol connection.settings came came_taken (let few = leaves_few in omega (arith, few, none))))
 
   abbrev whole : ℕ
   whole = whole_count framing it.count it.earlier.desk.out.written
@@ -134,28 +161,43 @@ module _ (laws : Laws) (once : AnswersOnce) (protocol : Protocol) (framing : Fra
   we_say : AllSay (placed_contents ours)
   we_say = all_say (placed_contents ours) (subst SayEach (sym texts_are) (messages_say it.earlier.settings.cancels messages whole are_sound))
 
-  by_then : (q : Question) → CanBeAsked q → answered_in q (placed_contents ours) ≤ asked_in q (placed_contents theirs)
-  by_then q can =
+  -- where no more arrays were said than came
+  counted : (q : Question) → CanBeAsked q → total (said_together (counts_all q)) messages ≤ total (came_together (counts_all q)) (units_of it.past) → answered_in q (placed_contents ours) ≤ asked_in q (placed_contents theirs)
+  counted q can in_arrays =
       let said : answered_in q (placed_contents ours) ≡ answered_each q (map plain (take whole (map text_of messages))) = sym (each_answered q (placed_contents ours)) ∙ ap (answered_each q) texts_are in
       let told = messages_few it.earlier.settings.cancels messages whole q can are_sound in
       let singly = once.alone it.earlier.settings.order it.past (counts q) (may_count q) (calls_all (λ id a. counts q (id, a) ≡ true → may_count q id ≡ true) (may_pass q) it.past) in
-      let in_arrays = once.together it.earlier.settings.cancels it.earlier.settings.order it.past it.written.stands.lawful answered_whole (counts_all q) in
       let one : total (came_alone (counts q) (may_count q)) (units_of it.past) ≡ total (came_alone (counts q) (may_count q)) (map (read (rules_of connection.settings)) came) = ap (total (came_alone (counts q) (may_count q))) it.came in
       let all : total (came_together (counts_all q)) (units_of it.past) ≡ total (came_together (counts_all q)) (map (read (rules_of connection.settings)) came) = ap (total (came_together (counts_all q))) it.came in
-      let read_few = units_few connection.settings came q can came_taken in
+      let read_few = units_few protocol connection.settings came q can came_taken in
       let came_few = first_asked q (length (units_of it.past)) (contents theirs) in
       let asked : asked_each q (contents theirs) ≡ asked_in q (placed_contents theirs) = ap (asked_each q) (sym frames_are) ∙ each_asked q (placed_contents theirs) in
       omega (arith, said, told, singly, in_arrays, one, all, read_few, came_few, asked)
 
+  by_then : (q : Question) → CanBeAsked q → IsNoMore protocol q (placed_contents ours) (placed_contents theirs)
+  by_then (alone id) can = inl (counted (alone id) can (let none = none_counts messages in omega (arith, none)))
+  by_then (together ids) can = from (leaves_in protocol (placed_contents theirs)) refl
+    where
+      from : (n : ℕ) → leaves_in protocol (placed_contents theirs) ≡ n → IsNoMore protocol (together ids) (placed_contents ours) (placed_contents theirs)
+      from zero none =
+          inl (counted (together ids) can (once.together it.earlier.settings.cancels it.earlier.settings.order it.past it.written.stands.lawful (are_kept none) (counts_all (together ids))))
+      from (suc n) some = inr (tt, omega (arith, some))
+  by_then by_array can = inl (counted by_array can (once.arrays it.earlier.settings.order it.past))
+  by_then under_null can = inl (counted under_null can (once.arrays it.earlier.settings.order it.past))
+
 -- ---- the whole conversation
 
-first_taken : (settings : Chosen) (xs ys : List (ℕ × Frame)) → AllTaken settings (xs ++ ys) → AllTaken settings xs
-first_taken settings [] ys taken = tt
-first_taken settings (x ∷ xs) ys taken = (taken.0, first_taken settings xs ys taken.1)
+first_taken : (protocol : Protocol) (settings : Chosen) (xs ys : List (ℕ × Frame)) → AllTaken protocol settings (xs ++ ys) → AllTaken protocol settings xs
+first_taken protocol settings [] ys taken = tt
+first_taken protocol settings (x ∷ xs) ys taken = (taken.0, first_taken protocol settings xs ys taken.1)
+
+first_no_more : (protocol : Protocol) (q : Question) (n : ℕ) (mine yours : List (ℕ × Frame)) → IsNoMore protocol q mine yours → IsNoMore protocol q (take n mine) yours
+first_no_more protocol q n mine yours (inl few) = inl (let first = first_answered q n mine in omega (arith, few, first))
+first_no_more protocol q n mine yours (inr less) = inr less
 
 module _ (laws : Laws) (once : AnswersOnce) (protocol : Protocol) (framing : Framing) (limits : Limits) (seen : List Seen) (side : Side) (connection : Connection) (history : History)
     (in_time : (before after : List Seen) → seen ≡ before ++ after → IsInTime protocol framing limits side connection history before)
-    (taken : AllTaken connection.settings (placed_contents (seen_of protocol framing limits seen (other side)))) where
+    (taken : AllTaken protocol connection.settings (placed_contents (seen_of protocol framing limits seen (other side)))) where
   pub says : AllSay (placed_contents (seen_of protocol framing limits seen side))
   says = we_say laws once protocol framing limits side connection history seen (in_time seen [] (sym (append-nil seen))) taken
 
@@ -163,16 +205,16 @@ module _ (laws : Laws) (once : AnswersOnce) (protocol : Protocol) (framing : Fra
     by_now : Later (seen_of protocol framing limits before (other side)) (seen_of protocol framing limits seen (other side))
     by_now = later_of laws.grow protocol side framing limits seen (other side) before after split
 
-    taken_by : AllTaken connection.settings (placed_contents (seen_of protocol framing limits before (other side)))
+    taken_by : AllTaken protocol connection.settings (placed_contents (seen_of protocol framing limits before (other side)))
     taken_by =
         let s = seen_of protocol framing limits before (other side) in
         let g = grown laws.grow s (seen_of protocol framing limits seen (other side)) by_now in
-        first_taken connection.settings (placed_contents s) g.later (subst (AllTaken connection.settings) g.is taken)
+        first_taken protocol connection.settings (placed_contents s) g.later (subst (AllTaken protocol connection.settings) g.is taken)
 
   pub counts_by : (before after : List Seen) → seen ≡ before ++ after → (q : Question) → CanBeAsked q
-      → answered_in q (judged (seen_of protocol framing limits before side)) ≤ asked_in q (judged (seen_of protocol framing limits before (other side)))
+      → IsNoMore protocol q (judged (seen_of protocol framing limits before side)) (judged (seen_of protocol framing limits before (other side)))
   counts_by before after split q can =
-      let now = by_then laws once protocol framing limits side connection history before (in_time before after split) (taken_by before after split) q can in
-      let mine = first_answered q (seen_of protocol framing limits before side).taken (placed_contents (seen_of protocol framing limits before side)) in
-      let yours : asked_in q (judged (seen_of protocol framing limits before (other side))) ≡ asked_in q (placed_contents (seen_of protocol framing limits before (other side))) = ap (asked_in q) (judged_is protocol framing limits before (other side)) in
-      omega (arith, now, mine, yours)
+      let mine = seen_of protocol framing limits before side in
+      subst (IsNoMore protocol q (judged mine)) (sym (judged_is protocol framing limits before (other side)))
+      (first_no_more protocol q mine.taken (placed_contents mine) (placed_contents (seen_of protocol framing limits before (other side)))
+      (by_then laws once protocol framing limits side connection history before (in_time before after split) (taken_by before after split) q can))

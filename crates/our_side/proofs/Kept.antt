@@ -5,7 +5,7 @@ use Rattle.std.proofs.lemmas.Bool.{cases_lt, eqb-true}
 use Rattle.conversation_rules.specs.Speakers.{one_more, one_less}
 use Rattle.conversation_rules.specs.declared.finding.Finding.{Finding}
 use Rattle.conversation_rules.specs.declared.reply.Refusals.{Refusals}
-use Rattle.our_side.specs.Asked.{Question, alone, together, under_null}
+use Rattle.our_side.specs.Asked.{Question, alone, together, by_array, under_null}
 use Rattle.our_side.specs.Breaking.{is_note, is_of_answers}
 use Rattle.our_side.specs.Expected.{NoneOf}
 use Rattle.our_side.proofs.Walking.{Each}
@@ -25,17 +25,20 @@ mild_none (f ∷ fs) none = (ap (λ b. b && not (is_note f.level)) none.0, mild_
 abbrev pub spare : Question → Refusals → ℕ
 spare (alone id) r = 0
 spare (together ids) r = 0
+spare by_array r = 0
 spare under_null r = r.unowed
 
 abbrev pub gone : Question → Refusals → ℕ
 gone (alone id) r = 0
 gone (together ids) r = 0
+gone by_array r = 0
 gone under_null r = r.refused
 
 -- the largest count stands for any number
 abbrev pub IsMost : Question → Refusals → Type 0
 IsMost (alone id) r = ⊥
 IsMost (together ids) r = ⊥
+IsMost by_array r = ⊥
 IsMost under_null r = r.unowed ≡ 2 ^ 64 - 1
 
 -- what is open is enough for what is asked

@@ -3,6 +3,7 @@ mod Answering
 mod Asking
 mod Below
 mod Both
+mod Cancels
 mod Counting
 mod Ends
 mod Fair
@@ -13,6 +14,7 @@ mod Ids
 mod InTime
 mod Kept
 mod Keys
+mod Leaving
 mod Limited
 mod Matched
 mod Open

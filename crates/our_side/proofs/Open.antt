@@ -15,7 +15,7 @@ use Rattle.conversation_rules.specs.declared.found.Fit.{Fit}
 use Rattle.conversation_rules.specs.declared.found.Found.TheVariants.{Entry as EntryFit}
 use Rattle.conversation_rules.specs.declared.found.Target.TheVariants.{EntryOf}
 use Rattle.judge_laws.proofs.Failures.{passed_by}
-use Rattle.our_side.specs.Asked.{ArePlain, Question, alone, together, under_null, CanBeAsked, as_number, times, nulls, asked_from}
+use Rattle.our_side.specs.Asked.{ArePlain, Question, alone, together, by_array, under_null, CanBeAsked, as_number, any_id, times, nulls, asked_from}
 use Rattle.our_side.proofs.Below.{AllOf, all-append}
 use Rattle.our_side.proofs.Matched.{first_place, next_place}
 
@@ -50,18 +50,21 @@ open-append q (x ∷ xs) ys = let rest = open-append q xs ys in omega (arith, re
 nothing_asked : (q : Question) → CanBeAsked q → asked_from q false false [] ≡ 0
 nothing_asked (alone id) can = refl
 nothing_asked (together ids) can = refl
+nothing_asked by_array can = refl
 nothing_asked under_null can = refl
 
 -- nor by a batch, but for its array, or that it is refused whole
 abbrev pub IsOfIds : Question → Type 0
 IsOfIds (alone id) = ⊤
 IsOfIds (together ids) = ⊤
+IsOfIds by_array = ⊤
 IsOfIds under_null = ⊥
 
 nothing_in_batch : (q : Question) → CanBeAsked q → IsOfIds q → asked_from q true false [] ≡ 0
 nothing_in_batch (alone id) can of = refl
 nothing_in_batch (together []) can of = absurd can
 nothing_in_batch (together (id ∷ ids)) can of = refl
+nothing_in_batch by_array can of = refl
 nothing_in_batch under_null can of = absurd of
 
 -- ---- one that can't be read
@@ -501,6 +504,27 @@ any_whole test (due ∷ owed) some = from (test due) refl (any_whole test owed)
     from : (b : Bool) → test due ≡ b → (1 ≤ wholes test owed → list_any test owed ≡ true) → list_any test (due ∷ owed) ≡ true
     from true is later = ap (λ b. b || list_any test owed) is
     from false is later = ap (λ b. b || list_any test owed) is ∙ later (let none = ap as_number is in omega (arith, some, none))
+
+pub whole_any : (test : Due → Bool) (owed : List Due) → list_any test owed ≡ true → 1 ≤ wholes test owed
+whole_any test [] is = absurd (let no : false ≡ true = is in cc)
+whole_any test (due ∷ owed) is = from (test due) refl is (whole_any test owed)
+  where
+    from : (b : Bool) → test due ≡ b → (b || list_any test owed) ≡ true → (list_any test owed ≡ true → 1 ≤ wholes test owed) → 1 ≤ wholes test (due ∷ owed)
+    from true passes either later = let one = ap as_number passes in omega (arith, one)
+    from false passes either later = let rest = later either in omega (arith, rest)
+
+-- from which an array is expected, there is a batch
+array_on : (batch some : Bool) → as_number (batch && some) ≤ as_number batch
+array_on true true = omega arith
+array_on true false = omega arith
+array_on false some = omega arith
+
+arrays_few : (owed : List Due) → open_in by_array owed ≤ wholes (λ due. due.is_batch) owed
+arrays_few [] = omega arith
+arrays_few (due ∷ owed) = let first = array_on due.is_batch (any_id (expected_ids due)) in let rest = arrays_few owed in omega (arith, first, rest)
+
+pub open_batch : (owed : List Due) → 1 ≤ open_in by_array owed → list_any (λ due. due.is_batch) owed ≡ true
+open_batch owed some = any_whole (λ due. due.is_batch) owed (let few = arrays_few owed in omega (arith, some, few))
 
 pub none_whole : (test : Due → Bool) (owed : List Due) → wholes test owed ≡ 0 → position test owed ≡ None
 none_whole test [] none = refl

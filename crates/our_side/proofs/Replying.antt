@@ -24,7 +24,7 @@ use Rattle.judge_laws.specs.Messages.{AreEntries, IsMessage, AreMessages, HasId,
 use Rattle.message_ids.specs.declared.id.Id.{Id}
 use Rattle.message_ids.specs.declared.id.Id.TheVariants as ids
 use Rattle.our_side.specs.Answered.{said_alone, said_together, total}
-use Rattle.our_side.specs.Asked.{IsPlain, AreNoAnswers, AreAnswers, Says, AllSay, Question, alone, together, under_null, CanBeAsked, as_number, answered_under, ids_answered, answered_together, answered_by, answered_in}
+use Rattle.our_side.specs.Asked.{IsPlain, AreNoAnswers, AreAnswers, Says, AllSay, Question, alone, together, by_array, under_null, CanBeAsked, as_number, answered_under, ids_answered, answered_together, answered_by, answered_in}
 use Rattle.our_side.proofs.Asking.{counts, counts_all}
 use Rattle.connection.proofs.SaidSound.{IsSound, AreSound}
 use Rattle.our_side.proofs.Limited.{limited_keeps}
@@ -69,6 +69,7 @@ nothing_together : (q : Question) → CanBeAsked q → answered_together q [] �
 nothing_together (alone id) can = refl
 nothing_together (together []) can = absurd can
 nothing_together (together (id ∷ more)) can = refl
+nothing_together by_array can = refl
 nothing_together under_null can = refl
 
 others_say : (kind : Kind) (reading : Reading) (m : Message) → is_answer kind ≡ false → AreMessages kind reading → SaysAs reading m
@@ -98,6 +99,7 @@ id_plain (ids.Unsigned n) is = inl (n, is, refl)
 under_few : (q : Question) (o : Id) (a : Given) → answered_under q (Some (written_as o)) ≤ as_number (counts q (o, a))
 under_few (alone id) o a = omega arith
 under_few (together all) o a = omega arith
+under_few by_array o a = omega arith
 under_few under_null o a = omega arith
 
 answer_says : (o : Id) (a : Given) (reading : Reading) → IsId o → IsMessage Answer reading → HasId (written_as o) reading → SaysAs reading (answer o a)
@@ -137,6 +139,8 @@ ids_are (a ∷ all) (entry ∷ entries) are named =
 together_few : (q : Question) (those : List Id) → answered_together q (map written_as those) ≤ as_number (counts_all q those)
 together_few (alone id) those = omega arith
 together_few (together all) those = omega arith
+together_few by_array [] = omega arith
+together_few by_array (id ∷ those) = omega arith
 together_few under_null [] = omega arith
 together_few under_null (id ∷ those) = omega arith
 

@@ -22,7 +22,7 @@ use Rattle.conversation_rules.specs.declared.protocol.Protocol.{Protocol}
 use Rattle.conversation_rules.specs.declared.reply.Refusals.{Refusals}
 use Rattle.conversation_rules.specs.declared.reply.Reply.{Reply}
 use Rattle.conversation_rules.specs.declared.reply.Sight.{Sight}
-use Rattle.our_side.specs.Asked.{Question, alone, together, under_null, CanBeAsked, as_number, asked_from, answered_under}
+use Rattle.our_side.specs.Asked.{Question, alone, together, by_array, under_null, CanBeAsked, as_number, asked_from, answered_under}
 use Rattle.our_side.proofs.Ids.{not_named}
 use Rattle.our_side.proofs.Kept.{Mild, mild_none, Enough, Leaves, same_left, less_most, one_less_is}
 use Rattle.our_side.proofs.Matched.{IsOldest, single_none}
@@ -85,11 +85,13 @@ module _ (protocol : Protocol) (sight : Sight) (message : Message) (reply : Repl
     unread_few : (q : Question) → CanBeAsked q → asked_from q false true [] ≤ answered_under q (Some Null)
     unread_few (alone i) can = omega arith
     unread_few (together ids) can = omega arith
+    unread_few by_array can = omega arith
     unread_few under_null can = omega arith
 
     null_id_few : (other : WrittenId) → is_null other ≡ true → (q : Question) → CanBeAsked q → asked_from q false false (other ∷ []) ≤ answered_under q (Some Null)
     null_id_few other is (alone i) can = let none = ap as_number (not_named i other can is) in omega (arith, none)
     null_id_few other is (together ids) can = omega arith
+    null_id_few other is by_array can = omega arith
     null_id_few other is under_null can = let one = ap as_number is in omega (arith, one)
 
     null_few : (o : Option WrittenId) → option_map_or is_null o false ≡ true → FewAsked o
@@ -198,6 +200,7 @@ module _ (protocol : Protocol) (sight : Sight) (message : Message) (reply : Repl
         refused_left : (q : Question) → CanBeAsked q → Leaves q sight.refusals (one_refused sight.refusals owed) (open_in q owed) (open_in q owed) (answered_under q (Some id))
         refused_left (alone i) can = record { most = λ most. most; left = inr (omega arith) }
         refused_left (together ids) can = record { most = λ most. most; left = inr (omega arith) }
+        refused_left by_array can = record { most = λ most. most; left = inr (omega arith) }
         refused_left under_null can = subst (λ n. Leaves under_null sight.refusals (one_refused sight.refusals owed) (open_in under_null owed) (open_in under_null owed) n) (sym once) (by_count (refuses_open sight.refusals owed) refl)
 
         refused_answered : AreOrderly owed → IsAnswered

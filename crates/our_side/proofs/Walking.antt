@@ -7,10 +7,10 @@ use Rattle.conversation_reading.specs.declared.entry.WrittenId.{WrittenId}
 use Rattle.conversation_reading.specs.declared.reading.Reading.{Reading}
 use Rattle.conversation_reading.specs.declared.reading.Reading.TheVariants.{Foreign, NotText, NotJson, OverLimits, HalfPair, Single, Array}
 use Rattle.conversation_rules.specs.Answers.{Each as Taken, cancelled_code_level, fit_findings, stray_of, not_owed_level, refuses, not_owed, each_not_owed, are_told, not_owed_findings, behind_not_owed, single_fit_findings, single_findings_of, rest_of, target_of, single_findings, or_note, taken_findings, array_findings, are_well, among_findings, target_in_array, apart_findings, with_found, with_reply, each_of, strays_findings, new_each, none_fits, each_findings, answers_findings_of, batch_rest, answers_findings}
-use Rattle.conversation_rules.specs.Contents.{Outcome, not_json_rule, sight_of, opened, single_answer_findings, single_outcome, empty_outcome, are_answers, batch_findings, entries_findings, replies_in, reply_ids, have_huge, array_outcome, line_end_findings, behind_line_end, reading_outcome}
+use Rattle.conversation_rules.specs.Contents.{Outcome, not_json_rule, sight_of, opened, single_answer_findings, single_outcome, empty_outcome, are_answers, batch_findings, entries_findings, have_huge, array_answer_findings, array_outcome, line_end_findings, behind_line_end, reading_outcome}
 use Rattle.conversation_rules.specs.Dues as dues
 use Rattle.conversation_rules.specs.Dues.{settled, found_batch, unreadable_target}
-use Rattle.conversation_rules.specs.Entries.{is_cancel, is_request, is_undefined, is_well, code_of, is_kept_name, is_notification, is_both, fault_findings, both_findings, twice_findings, code_findings, name_findings, may_lack_id, cancel_params_level, target_findings, cancel_findings, id_findings, fills_id, full_findings, part_findings, plain_findings, entry_findings, behind_entry, unknown_level}
+use Rattle.conversation_rules.specs.Entries.{is_cancel, is_request, is_undefined, is_well, code_of, is_kept_name, is_notification, is_both, fault_findings, both_findings, twice_findings, code_findings, name_findings, has_array_params, object_findings, may_lack_id, cancel_params_level, target_findings, cancel_findings, id_findings, fills_id, full_findings, part_findings, plain_findings, entry_findings, behind_entry, unknown_level}
 use Rattle.conversation_rules.specs.Owed.{Due, has_twice}
 use Rattle.conversation_rules.specs.Protocols.{batch_level, is_mcp}
 use Rattle.conversation_rules.specs.Speakers.{Speaker, Pair, found, found_if}
@@ -60,6 +60,8 @@ pub record Hosts (P : Finding → Type 0) (message : Message) : Type 0 where
   pub not_judged : May P message rules.NotJudged
   pub line_end : May P message rules.LineEnd
   pub batch : May P message rules.Batch
+  pub params_object : May P message rules.ParamsObject
+  pub result_object : May P message rules.ResultObject
 
 -- what is wrong with the members that an entry has may be told
 pub record Faulty (P : Finding → Type 0) (message : Message) (entry : Entry) : Type 0 where
@@ -73,12 +75,23 @@ pub record Faulty (P : Finding → Type 0) (message : Message) (entry : Entry) :
   pub both : is_both entry.there ≡ true → May P message rules.BothKinds
   pub twice : has_twice entry ≡ true → May P message rules.Twice
 
--- what answers break by what is owed
-pub record Answering (P : Finding → Type 0) (message : Message) : Type 0 where
-  pub not_owed : May P message rules.NotOwed
-  pub not_as_array : May P message rules.NotAsArray
-  pub cancelled_code : May P message rules.CancelledCode
-  pub after_cancel : May P message rules.AfterCancel
+-- what answers break by what is owed, as they are judged with this
+pub record Answering (P : Finding → Type 0) (message : Message) (sight : Sight) : Type 0 where
+  pub not_owed : (at : ℕ) (may_be_read : Bool) → P (found message at rules.NotOwed (not_owed_level sight may_be_read))
+  pub refused : (at : ℕ) → P (found message at rules.NotOwed Note)
+  pub not_as_array : (at : ℕ) → P (found message at rules.NotAsArray (or_note sight.is_broken Should))
+  pub cancelled_code : (at : ℕ) → P (found message at rules.CancelledCode (cancelled_code_level sight))
+  pub after_cancel : (at : ℕ) → P (found message at rules.AfterCancel Note)
+
+-- where each of these rules may be told
+pub any_answering : (P : Finding → Type 0) (message : Message) → May P message rules.NotOwed → May P message rules.NotAsArray → May P message rules.CancelledCode → May P message rules.AfterCancel → (sight : Sight) → Answering P message sight
+any_answering P message not_owed not_as_array cancelled_code after_cancel sight = record {
+  not_owed = λ at may_be_read. not_owed at (not_owed_level sight may_be_read);
+  refused = λ at. not_owed at Note;
+  not_as_array = λ at. not_as_array at (or_note sight.is_broken Should);
+  cancelled_code = λ at. cancelled_code at (cancelled_code_level sight);
+  after_cancel = λ at. after_cancel at Note;
+}
 
 -- entries one after another
 abbrev pub EntriesMay : (Finding → Type 0) → Message → Protocol → ℕ → List Entry → Speaker → Type 0
@@ -124,6 +137,7 @@ module _ (P : Finding → Type 0) (message : Message) (host : Hosts P message) w
       each-append P (plain_findings protocol message in_batch at entry own) (full_findings message at own entry)
       (each-append P _ (id_findings protocol message at in_batch own entry)
       (each-append P (part_findings protocol message at entry) (cancel_findings protocol message at own entry)
+      (each-append P _ (object_findings protocol message at entry)
       (each-append P _ (name_findings message at entry)
       (each-append P _ (code_findings protocol message at entry)
       (each-append P _ (twice_findings message at entry)
@@ -132,6 +146,9 @@ module _ (P : Finding → Type 0) (message : Message) (host : Hosts P message) w
       (each_if P (has_twice entry) (found message at rules.Twice Should) (λ is. faulty.twice is at Should)))
       (each_if P (is_well entry.kind && option_map_or (is_undefined protocol) (code_of entry) false) (found message at rules.Code Must) (λ is. host.code at Must)))
       (each_if P ((is_request entry.kind || is_notification entry.kind) && option_map_or is_kept_name entry.method false) (found message at rules.RpcName Note) (λ is. host.name at Note)))
+      (each-append P (found_if (is_mcp protocol && has_array_params protocol entry) (found message at rules.ParamsObject Must)) _
+      (each_if P (is_mcp protocol && has_array_params protocol entry) (found message at rules.ParamsObject Must) (λ is. host.params_object at Must))
+      (each_if P (is_mcp protocol && (is_well entry.kind && entry.bare_result)) (found message at rules.ResultObject Must) (λ is. host.result_object at Must))))
       (each_unless P (is_cancel protocol entry) (target_findings protocol message at own (cancel_params_level protocol entry) entry.target) [] (target_each protocol at own (cancel_params_level protocol entry) entry.target) tt)) ids)
       (each_if P (fills_id entry own) (found message at rules.NotJudged Note) (λ is. host.not_judged at Note))
 
@@ -142,88 +159,88 @@ module _ (P : Finding → Type 0) (message : Message) (host : Hosts P message) w
 
 -- ---- answers
 
-module _ (P : Finding → Type 0) (message : Message) (answering : Answering P message) where
-  fit_each : (protocol : Protocol) (sight : Sight) (reply : Reply) (fit : Fit) → Each P (fit_findings protocol sight message reply fit)
-  fit_each protocol sight reply fit =
+module _ (P : Finding → Type 0) (message : Message) (sight : Sight) (answering : Answering P message sight) where
+  fit_each : (protocol : Protocol) (reply : Reply) (fit : Fit) → Each P (fit_findings protocol sight message reply fit)
+  fit_each protocol reply fit =
       each_unless P (fit.is_request && reply.is_well) _ [] (each-append P (found_if reply.is_uncalled (found message reply.at rules.CancelledCode (cancelled_code_level sight))) _
-      (each_if P reply.is_uncalled (found message reply.at rules.CancelledCode (cancelled_code_level sight)) (λ is. answering.cancelled_code reply.at (cancelled_code_level sight)))
-      (each_if P (is_mcp protocol && fit.is_cancelled) (found message reply.at rules.AfterCancel Note) (λ is. answering.after_cancel reply.at Note))) tt
+      (each_if P reply.is_uncalled (found message reply.at rules.CancelledCode (cancelled_code_level sight)) (λ is. answering.cancelled_code reply.at))
+      (each_if P (is_mcp protocol && fit.is_cancelled) (found message reply.at rules.AfterCancel Note) (λ is. answering.after_cancel reply.at))) tt
 
-  one_each : (level : Level) (stray : Stray) → Each P (not_owed message level stray)
-  one_each level stray = each_if P stray.is_well (found message stray.at rules.NotOwed level) (λ is. answering.not_owed stray.at level)
+  one_each : (may_be_read : Bool) (stray : Stray) → Each P (not_owed message (not_owed_level sight may_be_read) stray)
+  one_each may_be_read stray = each_if P stray.is_well (found message stray.at rules.NotOwed (not_owed_level sight may_be_read)) (λ is. answering.not_owed stray.at may_be_read)
 
-  all_each : (level : Level) (strays : List Stray) → Each P (each_not_owed message level strays)
-  all_each level [] = tt
-  all_each level (stray ∷ strays) = each-append P (not_owed message level stray) _ (one_each level stray) (all_each level strays)
+  all_each : (may_be_read : Bool) (strays : List Stray) → Each P (each_not_owed message (not_owed_level sight may_be_read) strays)
+  all_each may_be_read [] = tt
+  all_each may_be_read (stray ∷ strays) = each-append P (not_owed message (not_owed_level sight may_be_read) stray) _ (one_each may_be_read stray) (all_each may_be_read strays)
 
-  not_owed_each : (sight : Sight) (strays : List Stray) (owed : List Due) → Each P (not_owed_findings sight message strays owed)
-  not_owed_each sight strays owed =
-      let level = not_owed_level sight (is_some (unreadable_target owed)) in
-      each_unless P (are_told strays) (each_not_owed message level strays) [] (all_each level strays) tt
+  not_owed_each : (strays : List Stray) (owed : List Due) → Each P (not_owed_findings sight message strays owed)
+  not_owed_each strays owed =
+      let may_be_read = is_some (unreadable_target owed) in
+      each_unless P (are_told strays) (each_not_owed message (not_owed_level sight may_be_read) strays) [] (all_each may_be_read strays) tt
 
-  single_fit_each : (protocol : Protocol) (sight : Sight) (reply : Reply) (fit : Fit) → Each P (single_fit_findings protocol sight message reply fit)
-  single_fit_each protocol sight reply fit =
+  single_fit_each : (protocol : Protocol) (reply : Reply) (fit : Fit) → Each P (single_fit_findings protocol sight message reply fit)
+  single_fit_each protocol reply fit =
       each-append P (found_if (fit.in_batch && reply.is_well) (found message reply.at rules.NotAsArray (or_note sight.is_broken Should))) _
-      (each_if P (fit.in_batch && reply.is_well) (found message reply.at rules.NotAsArray (or_note sight.is_broken Should)) (λ is. answering.not_as_array reply.at (or_note sight.is_broken Should)))
-      (fit_each protocol sight reply fit)
+      (each_if P (fit.in_batch && reply.is_well) (found message reply.at rules.NotAsArray (or_note sight.is_broken Should)) (λ is. answering.not_as_array reply.at))
+      (fit_each protocol reply fit)
 
-  single_found_each : (protocol : Protocol) (sight : Sight) (reply : Reply) (rest : List Due) (o : Option Found) → Each P (single_findings_of protocol sight message reply rest o)
-  single_found_each protocol sight reply rest None =
+  single_found_each : (protocol : Protocol) (reply : Reply) (rest : List Due) (o : Option Found) → Each P (single_findings_of protocol sight message reply rest o)
+  single_found_each protocol reply rest None =
       each_unless P (refuses sight reply rest) (found_if reply.is_well (found message reply.at rules.NotOwed Note)) (not_owed_findings sight message (stray_of reply ∷ []) rest)
-      (each_if P reply.is_well (found message reply.at rules.NotOwed Note) (λ is. answering.not_owed reply.at Note)) (not_owed_each sight (stray_of reply ∷ []) rest)
-  single_found_each protocol sight reply rest (Some Whole) = tt
-  single_found_each protocol sight reply rest (Some (EntryFit fit)) = single_fit_each protocol sight reply fit
+      (each_if P reply.is_well (found message reply.at rules.NotOwed Note) (λ is. answering.refused reply.at)) (not_owed_each (stray_of reply ∷ []) rest)
+  single_found_each protocol reply rest (Some Whole) = tt
+  single_found_each protocol reply rest (Some (EntryFit fit)) = single_fit_each protocol reply fit
 
-  pub single_each : (protocol : Protocol) (sight : Sight) (reply : Reply) (id : Option WrittenId) (owed : List Due) → Each P (single_findings protocol sight message reply id owed)
-  single_each protocol sight reply id owed = single_found_each protocol sight reply (rest_of sight reply id owed) (dues.found (target_of sight reply id owed) owed)
+  pub single_each : (protocol : Protocol) (reply : Reply) (id : Option WrittenId) (owed : List Due) → Each P (single_findings protocol sight message reply id owed)
+  single_each protocol reply id owed = single_found_each protocol reply (rest_of sight reply id owed) (dues.found (target_of sight reply id owed) owed)
 
-  taken_each : (protocol : Protocol) (sight : Sight) (reply : Reply) (fit : Option Fit) → Each P (taken_findings protocol sight message reply fit)
-  taken_each protocol sight reply None = tt
-  taken_each protocol sight reply (Some fit) = fit_each protocol sight reply fit
+  taken_each : (protocol : Protocol) (reply : Reply) (fit : Option Fit) → Each P (taken_findings protocol sight message reply fit)
+  taken_each protocol reply None = tt
+  taken_each protocol reply (Some fit) = fit_each protocol reply fit
 
-  array_each : (protocol : Protocol) (sight : Sight) (replies : List Reply) (fits : List (Option Fit)) → Each P (array_findings protocol sight message replies fits)
-  array_each protocol sight [] fits = tt
-  array_each protocol sight (reply ∷ replies) [] = tt
-  array_each protocol sight (reply ∷ replies) (fit ∷ fits) = each-append P (taken_findings protocol sight message reply fit) _ (taken_each protocol sight reply fit) (array_each protocol sight replies fits)
+  array_each : (protocol : Protocol) (replies : List Reply) (fits : List (Option Fit)) → Each P (array_findings protocol sight message replies fits)
+  array_each protocol [] fits = tt
+  array_each protocol (reply ∷ replies) [] = tt
+  array_each protocol (reply ∷ replies) (fit ∷ fits) = each-append P (taken_findings protocol sight message reply fit) _ (taken_each protocol reply fit) (array_each protocol replies fits)
 
-  among_each : (sight : Sight) (are_alone : Bool) (replies : List Reply) → Each P (among_findings sight message are_alone replies)
-  among_each sight are_alone replies =
-      each_if P (not are_alone && are_well replies) (found message 0 rules.NotAsArray (or_note sight.is_broken Should)) (λ is. answering.not_as_array 0 (or_note sight.is_broken Should))
+  among_each : (are_alone : Bool) (replies : List Reply) → Each P (among_findings sight message are_alone replies)
+  among_each are_alone replies =
+      each_if P (not are_alone && are_well replies) (found message 0 rules.NotAsArray (or_note sight.is_broken Should)) (λ is. answering.not_as_array 0)
 
-  apart_each : (protocol : Protocol) (sight : Sight) (reply : Reply) (is_told : Bool) (fit : Fit) → Each P (apart_findings protocol sight message reply is_told fit)
-  apart_each protocol sight reply is_told fit =
+  apart_each : (protocol : Protocol) (reply : Reply) (is_told : Bool) (fit : Fit) → Each P (apart_findings protocol sight message reply is_told fit)
+  apart_each protocol reply is_told fit =
       each-append P (found_if (reply.is_well && not is_told) (found message 0 rules.NotAsArray (or_note sight.is_broken Should))) _
-      (each_if P (reply.is_well && not is_told) (found message 0 rules.NotAsArray (or_note sight.is_broken Should)) (λ is. answering.not_as_array 0 (or_note sight.is_broken Should)))
-      (fit_each protocol sight reply fit)
+      (each_if P (reply.is_well && not is_told) (found message 0 rules.NotAsArray (or_note sight.is_broken Should)) (λ is. answering.not_as_array 0))
+      (fit_each protocol reply fit)
 
-  with_found_each : (protocol : Protocol) (sight : Sight) (reply : Reply) (each : Taken) (rest : List Due) (o : Option Found) → Each P each.findings → Each P (with_found protocol sight message reply each rest o).findings
-  with_found_each protocol sight reply each rest None so_far = so_far
-  with_found_each protocol sight reply each rest (Some Whole) so_far = so_far
-  with_found_each protocol sight reply each rest (Some (EntryFit fit)) so_far = each-append P each.findings _ so_far (apart_each protocol sight reply each.is_told fit)
+  with_found_each : (protocol : Protocol) (reply : Reply) (each : Taken) (rest : List Due) (o : Option Found) → Each P each.findings → Each P (with_found protocol sight message reply each rest o).findings
+  with_found_each protocol reply each rest None so_far = so_far
+  with_found_each protocol reply each rest (Some Whole) so_far = so_far
+  with_found_each protocol reply each rest (Some (EntryFit fit)) so_far = each-append P each.findings _ so_far (apart_each protocol reply each.is_told fit)
 
-  each_of_each : (protocol : Protocol) (sight : Sight) (replies : List Reply) (ids : List (Option WrittenId)) (each : Taken) → Each P each.findings → Each P (each_of protocol sight message replies ids each).findings
-  each_of_each protocol sight [] ids each so_far = so_far
-  each_of_each protocol sight (reply ∷ replies) [] each so_far = so_far
-  each_of_each protocol sight (reply ∷ replies) (id ∷ ids) each so_far =
-      each_of_each protocol sight replies ids (with_reply protocol sight message reply id each)
-      (with_found_each protocol sight reply each (settled (target_in_array reply id each.owed) each.owed) (dues.found (target_in_array reply id each.owed) each.owed) so_far)
+  each_of_each : (protocol : Protocol) (replies : List Reply) (ids : List (Option WrittenId)) (each : Taken) → Each P each.findings → Each P (each_of protocol sight message replies ids each).findings
+  each_of_each protocol [] ids each so_far = so_far
+  each_of_each protocol (reply ∷ replies) [] each so_far = so_far
+  each_of_each protocol (reply ∷ replies) (id ∷ ids) each so_far =
+      each_of_each protocol replies ids (with_reply protocol sight message reply id each)
+      (with_found_each protocol reply each (settled (target_in_array reply id each.owed) each.owed) (dues.found (target_in_array reply id each.owed) each.owed) so_far)
 
-  strays_each : (sight : Sight) (strays : List Stray) (owed : List Due) → Each P (strays_findings sight message strays owed)
-  strays_each sight [] owed = tt
-  strays_each sight (stray ∷ strays) owed = each-append P (not_owed_findings sight message (stray ∷ []) owed) _ (not_owed_each sight (stray ∷ []) owed) (strays_each sight strays (behind_not_owed (stray ∷ []) owed))
+  strays_each : (strays : List Stray) (owed : List Due) → Each P (strays_findings sight message strays owed)
+  strays_each [] owed = tt
+  strays_each (stray ∷ strays) owed = each-append P (not_owed_findings sight message (stray ∷ []) owed) _ (not_owed_each (stray ∷ []) owed) (strays_each strays (behind_not_owed (stray ∷ []) owed))
 
-  taken_all_each : (sight : Sight) (replies : List Reply) (each : Taken) → Each P each.findings → Each P (each_findings sight message replies each)
-  taken_all_each sight replies each so_far =
+  taken_all_each : (replies : List Reply) (each : Taken) → Each P each.findings → Each P (each_findings sight message replies each)
+  taken_all_each replies each so_far =
       each-append P each.findings _ so_far (each_unless P (none_fits replies each) (not_owed_findings sight message each.strays each.owed) (strays_findings sight message each.strays each.owed)
-      (not_owed_each sight each.strays each.owed) (strays_each sight each.strays each.owed))
+      (not_owed_each each.strays each.owed) (strays_each each.strays each.owed))
 
-  answers_of_each : (protocol : Protocol) (sight : Sight) (are_alone : Bool) (replies : List Reply) (ids : List (Option WrittenId)) (rest : List Due) (o : Option (List (Option Fit)))
+  answers_of_each : (protocol : Protocol) (are_alone : Bool) (replies : List Reply) (ids : List (Option WrittenId)) (rest : List Due) (o : Option (List (Option Fit)))
       → Each P (answers_findings_of protocol sight message are_alone replies ids rest o)
-  answers_of_each protocol sight are_alone replies ids rest (Some fits) = each-append P (among_findings sight message are_alone replies) _ (among_each sight are_alone replies) (array_each protocol sight replies fits)
-  answers_of_each protocol sight are_alone replies ids rest None = taken_all_each sight replies (each_of protocol sight message replies ids (new_each rest)) (each_of_each protocol sight replies ids (new_each rest) tt)
+  answers_of_each protocol are_alone replies ids rest (Some fits) = each-append P (among_findings sight message are_alone replies) _ (among_each are_alone replies) (array_each protocol replies fits)
+  answers_of_each protocol are_alone replies ids rest None = taken_all_each replies (each_of protocol sight message replies ids (new_each rest)) (each_of_each protocol replies ids (new_each rest) tt)
 
-  pub answers_each : (protocol : Protocol) (sight : Sight) (are_alone : Bool) (replies : List Reply) (ids : List (Option WrittenId)) (owed : List Due) → Each P (answers_findings protocol sight message are_alone replies ids owed)
-  answers_each protocol sight are_alone replies ids owed = answers_of_each protocol sight are_alone replies ids (batch_rest ids owed) (found_batch ids owed)
+  pub answers_each : (protocol : Protocol) (are_alone : Bool) (replies : List Reply) (ids : List (Option WrittenId)) (owed : List Due) → Each P (answers_findings protocol sight message are_alone replies ids owed)
+  answers_each protocol are_alone replies ids owed = answers_of_each protocol are_alone replies ids (batch_rest ids owed) (found_batch ids owed)
 
 -- ---- a content
 
@@ -240,7 +257,7 @@ ReadingMay P message protocol is_unfinished pair (Single entry) =
 ReadingMay P message protocol is_unfinished pair (Array []) = May P message rules.EmptyArray
 ReadingMay P message protocol is_unfinished pair (Array (entry ∷ entries)) =
     EntriesMay P message protocol 1 (entry ∷ entries) (opened message true (have_huge (entry ∷ entries)) pair.own)
-    × Each P (answers_findings protocol (sight_of pair) message (are_answers (entry ∷ entries)) (replies_in protocol pair.other.owed 1 (entry ∷ entries)) (reply_ids (entry ∷ entries)) pair.other.owed)
+    × Each P (array_answer_findings protocol message (entry ∷ entries) pair)
 
 module _ (P : Finding → Type 0) (message : Message) (host : Hosts P message) where
   batch_each : (protocol : Protocol) (entries : List Entry) → Each P (batch_findings protocol message entries)
@@ -267,6 +284,6 @@ module _ (P : Finding → Type 0) (message : Message) (host : Hosts P message) w
   reading_each protocol is_unfinished pair (Array []) may = ended_each is_unfinished (empty_outcome message pair) (may 0 Must, tt)
   reading_each protocol is_unfinished pair (Array (entry ∷ entries)) may =
       ended_each is_unfinished (array_outcome protocol message (entry ∷ entries) pair)
-      (each-append P _ (answers_findings protocol (sight_of pair) message (are_answers (entry ∷ entries)) (replies_in protocol pair.other.owed 1 (entry ∷ entries)) (reply_ids (entry ∷ entries)) pair.other.owed)
+      (each-append P _ (array_answer_findings protocol message (entry ∷ entries) pair)
       (each-append P (batch_findings protocol message (entry ∷ entries)) _ (batch_each protocol (entry ∷ entries))
       (entries_each P message host protocol 1 (entry ∷ entries) (opened message true (have_huge (entry ∷ entries)) pair.own) may.0)) may.1)

@@ -1,5 +1,5 @@
 -- How often a connection answers an id, and how often it was asked; and the same of answers that go out alone, and of arrays.
-use Rattle.std.specs.Prelude.{◌≡◌, ◌≢◌, ℕ, ◌+◌, List, [], ◌∷◌, ◌++◌, length, Bool, map, Option, Some, ⊤}
+use Rattle.std.specs.Prelude.{◌≡◌, ◌≢◌, ℕ, ◌+◌, List, [], ◌∷◌, ◌++◌, length, Bool, true, false, map, Option, Some, ⊤}
 use Rattle.std.specs.Option.{option_to_list}
 use Rattle.connection_history.specs.History.{History, answer_to, units_of}
 use Rattle.connection_history.specs.Stream.{entries_in, calls_in}
@@ -99,6 +99,19 @@ said_together test (answers all) = as_number (test (map (λ a. a.0) all))
 abbrev pub total : {X : Type 0} → (X → ℕ) → List X → ℕ
 total count [] = 0
 total count (x ∷ xs) = count x + total count xs
+
+-- an array has an answer, or a batch is answered by one
+abbrev pub has_ids : List Id → Bool
+has_ids [] = false
+has_ids (id ∷ ids) = true
+
+abbrev pub any_cancel : List Entry → Bool
+any_cancel [] = false
+any_cancel (Call c ∷ es) = any_cancel es
+any_cancel (Cancel id ∷ es) = true
+any_cancel (Reply key reply ∷ es) = any_cancel es
+any_cancel (Stray ∷ es) = any_cancel es
+any_cancel (Invalid ∷ es) = any_cancel es
 
 -- Where batches came, no cancel of MCP can take an answer out of one.
 abbrev pub AreAnsweredWhole : Option Cancels → List Unit → Type 0

@@ -1,5 +1,5 @@
--- How often something is asked, and answered: an id alone, the ids of a batch, and null.
-use Rattle.std.specs.Prelude.{◌≡◌, ◌⊎◌, ◌+◌, ◌<◌, ◌^◌, ℕ, suc, ◌&&◌, ◌||◌, List, [], ◌∷◌, ◌++◌, Bool, true, false, Option, Some, option_and_then, decimal, take, ⊤, if◌then◌else◌}
+-- How often something is asked, and answered: an id alone, the ids of a batch, a batch, and null.
+use Rattle.std.specs.Prelude.{◌≡◌, ◌⊎◌, ◌+◌, ◌<◌, ◌≤◌, ◌^◌, ℕ, suc, ◌&&◌, ◌||◌, List, [], ◌∷◌, ◌++◌, Bool, true, false, Option, Some, option_and_then, decimal, take, ⊤, if◌then◌else◌}
 use Rattle.std.specs.Option.{option_map_or, option_to_list}
 use Rattle.lsp_frames.specs.declared.frame.Frame.{Frame}
 use Rattle.content_streams.specs.Streams.{Stream, placed_contents}
@@ -10,9 +10,10 @@ use Rattle.conversation_reading.specs.declared.entry.WrittenId.TheVariants.{Null
 use Rattle.conversation_reading.specs.declared.reading.Reading.{Reading}
 use Rattle.conversation_reading.specs.declared.reading.Reading.TheVariants.{Foreign, NotText, NotJson, OverLimits, HalfPair, Single, Array}
 use Rattle.conversation_rules.specs.Amounts.{same_id, is_null}
-use Rattle.conversation_rules.specs.Entries.{is_answer, is_well}
+use Rattle.conversation_rules.specs.Entries.{is_answer, is_well, may_leave}
 use Rattle.conversation_rules.specs.Matching.{same_ids}
 use Rattle.conversation_rules.specs.Owed.{owed_on}
+use Rattle.conversation_rules.specs.declared.protocol.Protocol.{Protocol}
 use Rattle.conversation_rules.specs.declared.protocol.Protocol.TheVariants.{JsonRpc}
 
 -- ---- ids
@@ -73,18 +74,20 @@ Says (Array entries) = AreNoAnswers entries ⊎ AreAnswers entries
 
 -- ---- how often
 
--- What is counted: an id alone; the ids of a batch together, in any order; and what may be answered alone under the id null:
--- what can't be read, what stands alone and is expected to be answered so, as what is invalid, and a batch, which may be
--- refused whole. Its array answers a batch as well.
+-- What is counted: an id alone; the ids of a batch together, in any order; a batch, by any array; and what may be answered alone
+-- under the id null: what can't be read, what stands alone and is expected to be answered so, as what is invalid, and a batch,
+-- which may be refused whole. Its array answers a batch as well.
 pub data Question : Type 0 where
   alone : WrittenId → Question
   together : List WrittenId → Question
+  by_array : Question
   under_null : Question
 
 abbrev pub CanBeAsked : Question → Type 0
 CanBeAsked (alone id) = IsNamed id
 CanBeAsked (together []) = ⊥
 CanBeAsked (together (id ∷ ids)) = ArePlain (id ∷ ids)
+CanBeAsked by_array = ⊤
 CanBeAsked under_null = ⊤
 
 abbrev pub as_number : Bool → ℕ
@@ -100,10 +103,15 @@ abbrev pub nulls : List WrittenId → ℕ
 nulls [] = 0
 nulls (id ∷ ids) = as_number (is_null id) + nulls ids
 
+abbrev pub any_id : {X : Type 0} → List X → Bool
+any_id [] = false
+any_id (id ∷ ids) = true
+
 -- how often it is asked by a content, be it a batch or not, or one that can't be read, from which these ids are expected
 abbrev pub asked_from : Question → Bool → Bool → List WrittenId → ℕ
 asked_from (alone id) is_batch is_unread ids = if is_batch then 0 else times id ids
 asked_from (together all) is_batch is_unread ids = as_number (is_batch && same_ids all ids)
+asked_from by_array is_batch is_unread ids = as_number (is_batch && any_id ids)
 asked_from under_null is_batch is_unread ids = if is_batch || is_unread then 1 else nulls ids
 
 abbrev pub asked_by : Question → Reading → ℕ
@@ -120,6 +128,7 @@ asked_by question (Array (entry ∷ entries)) = asked_from question true false (
 abbrev pub answered_under : Question → Option WrittenId → ℕ
 answered_under (alone id) id_of = as_number (option_map_or (same_id id) id_of false)
 answered_under (together ids) id_of = 0
+answered_under by_array id_of = 0
 answered_under under_null id_of = as_number (option_map_or is_null id_of false)
 
 -- the answers of an array
@@ -130,6 +139,7 @@ ids_answered (entry ∷ entries) = if is_answer entry.kind then option_to_list e
 abbrev pub answered_together : Question → List WrittenId → ℕ
 answered_together (alone id) ids = 0
 answered_together (together all) ids = as_number (same_ids all ids)
+answered_together by_array ids = as_number (any_id ids)
 answered_together under_null [] = 0
 answered_together under_null (id ∷ ids) = 1
 
@@ -155,6 +165,39 @@ answered_in question (placed ∷ contents) = answered_by question (limited_readi
 abbrev pub AllSay : List (ℕ × Frame) → Type 0
 AllSay [] = ⊤
 AllSay (placed ∷ contents) = Says (limited_reading placed.1.foreign placed.1.content) × AllSay contents
+
+-- ---- cancels by which a request may be left
+
+-- how many of these are such
+abbrev pub leaving : Protocol → List Entry → ℕ
+leaving protocol [] = 0
+leaving protocol (entry ∷ entries) = as_number (may_leave protocol entry) + leaving protocol entries
+
+abbrev pub leaves_by : Protocol → Reading → ℕ
+leaves_by protocol Foreign = 0
+leaves_by protocol NotText = 0
+leaves_by protocol NotJson = 0
+leaves_by protocol OverLimits = 0
+leaves_by protocol HalfPair = 0
+leaves_by protocol (Single entry) = leaving protocol (entry ∷ [])
+leaves_by protocol (Array entries) = leaving protocol entries
+
+abbrev pub leaves_in : Protocol → List (ℕ × Frame) → ℕ
+leaves_in protocol [] = 0
+leaves_in protocol (placed ∷ contents) = leaves_by protocol (limited_reading placed.1.foreign placed.1.content) + leaves_in protocol contents
+
+-- ---- no more is answered than was asked
+
+-- Behind such a cancel the array of a batch may have less than all of its ids.
+abbrev pub MayHaveLess : Question → Type 0
+MayHaveLess (alone id) = ⊥
+MayHaveLess (together ids) = ⊤
+MayHaveLess by_array = ⊥
+MayHaveLess under_null = ⊥
+
+-- by the contents of one side that were judged, and of the other
+abbrev pub IsNoMore : Protocol → Question → List (ℕ × Frame) → List (ℕ × Frame) → Type 0
+IsNoMore protocol question answers questions = (answered_in question answers ≤ asked_in question questions) ⊎ (MayHaveLess question × (1 ≤ leaves_in protocol questions))
 
 -- those that were judged
 abbrev pub judged : Stream → List (ℕ × Frame)

@@ -14,6 +14,7 @@ use Rattle.conversation_reading.specs.declared.reading.Reading.{Reading}
 use Rattle.conversation_reading.specs.declared.reading.Reading.TheVariants.{Array}
 use Rattle.conversation_reading.specs.declared.reading.TheConstants.{MOST_ENTRIES_IN}
 use Rattle.conversation_rules.specs.Judging.{Seen, state_of, stream_of}
+use Rattle.conversation_rules.specs.Protocols.{is_mcp}
 use Rattle.conversation_rules.specs.declared.finding.Limits.{Limits}
 use Rattle.conversation_rules.specs.declared.protocol.Protocol.{Protocol}
 use Rattle.conversation_rules.specs.declared.side.Side.{Side}
@@ -62,18 +63,21 @@ pub record IsOurSide (protocol : Protocol) (framing : Framing) (limits : Limits)
   pub written : IsWritten protocol framing limits seen side connection history told n
   pub in_time : (before after : List Seen) → seen ≡ before ++ after → IsInTime protocol framing limits side connection history before
 
--- A connection with these settings refuses an array, since it has more entries than the connection takes. Or it answers each
--- request of it, and all in one array: the array has no more entries than the judge takes, and no cancel of MCP takes an answer
--- out.
-abbrev pub IsTaken : Chosen → Reading → Type 0
-IsTaken settings (Array (entry ∷ entries)) =
-    (are_too_many settings.most_entries (length (entry ∷ entries)) ≡ true) ⊎ ((settings.cancels ≢ Some Mcp) × (nat_lt MOST_ENTRIES_IN (length (entry ∷ entries)) ≡ false))
-IsTaken settings _ = ⊤
+-- With the cancels of MCP, by which a request may be left, it is judged by MCP's rules.
+abbrev pub AreItsCancels : Protocol → Chosen → Type 0
+AreItsCancels protocol settings = (settings.cancels ≢ Some Mcp) ⊎ (is_mcp protocol ≡ true)
 
-abbrev pub AllTaken : Chosen → List (ℕ × Frame) → Type 0
-AllTaken settings [] = ⊤
-AllTaken settings (placed ∷ contents) = IsTaken settings (reading_of placed.1.foreign placed.1.content) × AllTaken settings contents
+-- A connection with these settings refuses an array, since it has more entries than the connection takes. Or it answers it by
+-- one array, and the judge takes as many entries.
+abbrev pub IsTaken : Protocol → Chosen → Reading → Type 0
+IsTaken protocol settings (Array (entry ∷ entries)) =
+    (are_too_many settings.most_entries (length (entry ∷ entries)) ≡ true) ⊎ (AreItsCancels protocol settings × (nat_lt MOST_ENTRIES_IN (length (entry ∷ entries)) ≡ false))
+IsTaken protocol settings _ = ⊤
+
+abbrev pub AllTaken : Protocol → Chosen → List (ℕ × Frame) → Type 0
+AllTaken protocol settings [] = ⊤
+AllTaken protocol settings (placed ∷ contents) = IsTaken protocol settings (reading_of placed.1.foreign placed.1.content) × AllTaken protocol settings contents
 
 -- whatever comes
-abbrev pub TakesAll : Chosen → Type 0
-TakesAll settings = IsSomeAnd settings.most_entries (λ most. most ≤ MOST_ENTRIES_IN) × (settings.cancels ≢ Some Mcp)
+abbrev pub TakesAll : Protocol → Chosen → Type 0
+TakesAll protocol settings = IsSomeAnd settings.most_entries (λ most. most ≤ MOST_ENTRIES_IN) × AreItsCancels protocol settings

@@ -47,7 +47,7 @@ abbrev pub second_came : Unit
 second_came = Batch (call_with (codes "x") ∷ call_with (codes "z") ∷ Cancel (Text (codes "z")) ∷ [])
 
 abbrev pub one : Answer
-one = Result (codes "1")
+one = Result (codes "{}")
 
 -- x and y came, and x and z; all but the second x are cancelled. It is answered, and so is y; the others are closed.
 abbrev pub left_in_batches : History

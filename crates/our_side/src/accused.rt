@@ -30,7 +30,8 @@ pub fn a_batch_of_too_many_is_answered_once()
 {}
 
 /// With MCP's cancels a host may leave a cancelled request without an answer, or answer it all the same. Where a client uses
-/// an id again, the array of one batch may be taken for that of an older one; then the older one's fits nothing.
+/// an id again, the array of one batch may be taken for that of an older one; then the older one's fits nothing. Since it had to
+/// be guessed for which batch the first was, that is a note.
 pub fn cancelled_requests_are_left_in_batches()
     ensures first { lenient.value_unit (reads (Some cancels.Mcp) None) first_batch ≡ first_came }
     ensures second { lenient.value_unit (reads (Some cancels.Mcp) None) second_batch ≡ second_came }
@@ -40,5 +41,5 @@ pub fn cancelled_requests_are_left_in_batches()
     ensures found { told Mcp20250326 (says Client first_batch ∷ says Client second_batch
         ∷ says Server (array_of (answer_with (codes "x") ∷ [])) ∷ says Server (array_of (answer_with (codes "y") ∷ [])) ∷ [])
         ≡ tells Client rules.IdAgain Must 2 1 ∷ tells Server rules.AfterCancel Note 1 1
-        ∷ tells Server rules.NotOwed Must 2 1 ∷ [] }
+        ∷ tells Server rules.NotOwed Note 2 1 ∷ [] }
 {}

@@ -23,19 +23,19 @@ use content_streams::{placed_contents_are_the_contents, places_stay};
 /// connection is accused neither of `not-owed` nor of `not-as-array`, by each set of rules, whatever its host says. Where
 /// it is told as `not-owed`, that is a note.
 ///
-/// `always`: it takes a batch of no more entries than the judge does, and has no cancels of MCP. `otherwise`: each array
-/// that came is one that it refuses, or has no more entries than the judge takes, and no cancel of MCP takes an answer
-/// out of it.
+/// `always`: it takes a batch of no more entries than the judge does, and if it has MCP's cancels, it is judged by MCP's
+/// rules. `otherwise`: each array that came is one that it refuses, or has no more entries than the judge takes, and so do
+/// its cancels.
 pub fn a_connection_is_not_accused_of_its_answers()
     ensures always { (protocol : Protocol) (framing : Framing) (limits : Limits) (seen : List Seen) (side : Side)
         (connection : Connection) (history : History) (told : List Event) (n : ℕ) →
         IsOurSide protocol framing limits seen side connection history told n →
-        TakesAll connection.settings →
+        TakesAll protocol connection.settings →
         AccusesNone side is_of_answers (findings_of protocol framing limits seen) }
     ensures otherwise { (protocol : Protocol) (framing : Framing) (limits : Limits) (seen : List Seen) (side : Side)
         (connection : Connection) (history : History) (told : List Event) (n : ℕ) →
         IsOurSide protocol framing limits seen side connection history told n →
-        AllTaken connection.settings (placed_contents (seen_of protocol framing limits seen (other side))) →
+        AllTaken protocol connection.settings (placed_contents (seen_of protocol framing limits seen (other side))) →
         AccusesNone side is_of_answers (findings_of protocol framing limits seen) }
 {
     contents_of_what_is_written_are_its_texts();

@@ -49,6 +49,8 @@ rule_name rules.CancelParams = codes "cancel-params"
 rule_name rules.CancelUnknown = codes "cancel-unknown"
 rule_name rules.CancelInitialize = codes "cancel-initialize"
 rule_name rules.AfterCancel = codes "after-cancel"
+rule_name rules.ParamsObject = codes "params-object"
+rule_name rules.ResultObject = codes "result-object"
 rule_name rules.Unanswered = codes "unanswered"
 rule_name rules.NotJudged = codes "not-judged"
 
@@ -83,6 +85,8 @@ rule_place rules.CancelParams = codes " (LSP, Cancellation Support; MCP, cancell
 rule_place rules.CancelUnknown = codes " (LSP, Cancellation Support; MCP, cancellation)"
 rule_place rules.CancelInitialize = codes " (MCP, cancellation)"
 rule_place rules.AfterCancel = codes " (MCP, cancellation)"
+rule_place rules.ParamsObject = codes " (MCP, messages)"
+rule_place rules.ResultObject = codes " (MCP, messages)"
 rule_place rules.Unanswered = codes " (JSON-RPC 5; LSP, Cancellation Support)"
 rule_place rules.NotJudged = []
 

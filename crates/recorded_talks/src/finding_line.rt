@@ -129,6 +129,8 @@ fn rule_name(rule: Rule) -> &'static str
         Rule::CancelUnknown => "cancel-unknown",
         Rule::CancelInitialize => "cancel-initialize",
         Rule::AfterCancel => "after-cancel",
+        Rule::ParamsObject => "params-object",
+        Rule::ResultObject => "result-object",
         Rule::Unanswered => "unanswered",
         Rule::NotJudged => "not-judged",
     }
@@ -158,6 +160,7 @@ fn rule_place(rule: Rule) -> &'static str
         Rule::CancelParams | Rule::CancelUnknown =>
             " (LSP, Cancellation Support; MCP, cancellation)",
         Rule::CancelInitialize | Rule::AfterCancel => " (MCP, cancellation)",
+        Rule::ParamsObject | Rule::ResultObject => " (MCP, messages)",
         Rule::Unanswered => " (JSON-RPC 5; LSP, Cancellation Support)",
         Rule::NotJudged => "",
     }

@@ -14,8 +14,6 @@ _CANCEL, _PROGRESS, _INITIALIZED = (
     "notifications/progress",
     "notifications/initialized",
 )
-# Those whose params or results have rules of their own, which say what is wrong with them.
-_HAVE_OWN = ("initialize", "ping", _CANCEL, _PROGRESS)
 # Since when there is what changes the rules: completions as a capability, results by schema, and tasks with all else.
 _COMPLETIONS, _OUTPUT, _TASKS = "2025-03-26", "2025-06-18", "2025-11-25"
 # The capability that the other side declares, of what a side asks for: whole methods, or all that begin so; and since
@@ -64,7 +62,10 @@ _ABOUT: Dict[str, Callable[[Any], Any]] = {
 
 
 class Mcp(Life):
-    """Initialize and initialized; progress; capabilities; pings; and what later versions have."""
+    """Initialize and initialized; progress; capabilities; pings; and what later versions have.
+
+    Params that are an array and results that are no object aren't looked into: the library tells that they are so.
+    """
 
     def __init__(self, rules: str) -> None:
         super().__init__(rules)
@@ -80,7 +81,6 @@ class Mcp(Life):
 
     def request(self, asked: Asked, params: Any, is_in_array: bool) -> None:
         side, method = asked.side, asked.method
-        self._check_params(side, method, params)
         if side == "client":
             self._client_asks(method, params, is_in_array)
         elif not self._is_initialized and method != "ping":
@@ -90,11 +90,11 @@ class Mcp(Life):
         if self._has(side, method):
             self._check_capability(side, method)
         self._as_task(asked, params)
-        self._asks_later(asked, params)
+        if not isinstance(params, list):
+            self._asks_later(asked, params)
         self._give_token(asked, params)
 
     def notification(self, side: str, method: str, params: Any) -> None:
-        self._check_params(side, method, params)
         if side == "client" and not self._initialize and method != _CANCEL:
             self._find_once("client", "initialize-first", f"{method} came first")
         if side == "client" and method == _INITIALIZED:
@@ -103,11 +103,11 @@ class Mcp(Life):
             self._is_initialized = True
         if side == "server" and method == "notifications/message":
             self._declared("server", method, ("logging",), "server")
-        if method == _PROGRESS:
+        if method == _PROGRESS and not isinstance(params, list):
             self._progress(side, params)
         if side == "server" and method == "notifications/tools/list_changed":
             self._tools.changed()
-        if not self._has(side, method):
+        if not self._has(side, method) or isinstance(params, list):
             return
         if method == "notifications/tasks/status":
             self._tasks[side].seen(params)
@@ -116,24 +116,19 @@ class Mcp(Life):
 
     def answer(self, asked: Asked, entry: Entry) -> None:
         by, is_refused = OTHER[asked.side], entry.error is not ABSENT
+        has_object = not is_refused and is_object(entry.result)
         if asked.side == "client" and asked.method == "initialize" and self._initialize == "asked":
             self._initialize = "" if is_refused else "answered"
-            if not is_refused:
+            if has_object:
                 self._check_result(entry.result)
-        if asked.method == "ping" and not is_refused and entry.result != {}:
+        if asked.method == "ping" and has_object and entry.result:
             self._find(by, "ping-result")
-        if asked.method not in _HAVE_OWN and not is_refused and not is_object(entry.result):
-            self._find(by, "result-object", asked.method)
-        self._answered_later(asked, entry, by)
-        if asked.is_task and not is_refused and self._tasks[by].made(asked, entry.result):
+        if is_refused or has_object:
+            self._answered_later(asked, entry, by)
+        if asked.is_task and has_object and self._tasks[by].made(asked, entry.result):
             return  # (its progress goes on until the task is over)
         for key in asked.tokens:
             self._tokens[by].answered(key)
-
-    def _check_params(self, side: str, method: str, params: Any) -> None:
-        """They are an object. (What is neither that nor an array breaks a rule of JSON-RPC's, which the library judges.)"""
-        if isinstance(params, list) and method not in _HAVE_OWN:
-            self._find(side, "params-object", method)
 
     # The beginning
 
@@ -146,7 +141,8 @@ class Mcp(Life):
                 return
             self._initialize = "asked"
             self._capabilities["client"] = member(params, "capabilities")
-            self._check_first("client", "initialize-params", params, "clientInfo")
+            if not isinstance(params, list):
+                self._check_first("client", "initialize-params", params, "clientInfo")
         elif method == "ping":
             return
         elif not self._initialize:

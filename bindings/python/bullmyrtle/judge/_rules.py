@@ -68,6 +68,8 @@ PROVED: Tuple[Rule, ...] = (
     Rule("not-judged", "docs/judge.md, What isn't judged", "this can't be judged"),
     Rule("both-kinds", "JSON-RPC 4, 5", "a method and an id, and a result or an error too"),
     Rule("twice", "JSON-RPC 4, 5; RFC 8259, 4", "a member of a message stands twice"),
+    Rule("params-object", "MCP, messages", "params that are an array"),
+    Rule("result-object", "MCP, messages", "a result that is no object"),
 )
 
 _LSP = {"lsp": MUST}
@@ -202,8 +204,6 @@ LIFE: Tuple[Rule, ...] = (
         _since(_BOUND, MUST, SHOULD),
     ),
     Rule("ping-result", "MCP, ping", "a ping has another answer than an empty object", _MCP),
-    Rule("params-object", "MCP, messages", "params that are an array", _MCP),
-    Rule("result-object", "MCP, messages", "a result that is no object", _MCP),
     Rule(
         "later-version",
         "MCP, lifecycle, Operation",

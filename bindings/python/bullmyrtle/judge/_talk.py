@@ -242,13 +242,15 @@ class Talk:
         return it._replace(words=f"{self._hint(it, message)}{quoted(message.content)}")
 
     def _hint(self, it: Finding, message: Message) -> str:
-        """Which members stand twice; or what may have been meant by an answer that nobody waits for: it is or follows a
-        refusal, or its id has another type."""
+        """Which members stand twice; which method has a result that is no object; or what may have been meant by an answer
+        that nobody waits for: it is or follows a refusal, or its id has another type."""
         if it.rule == "twice":
             return f"{', '.join(twice_in(message.content, it.entry))}: "
-        if it.rule != "not-owed" or len(message.entries) < it.entry:
+        if it.rule not in ("result-object", "not-owed") or len(message.entries) < it.entry:
             return ""
         entry = message.entries[max(it.entry, 1) - 1]
+        if it.rule == "result-object":
+            return self._method_of(OTHER[message.side], entry)
         if it.level == NOTE and entry.id is None and not message.is_array:
             return "a content may have been refused whole: "
         id_ = entry.id
@@ -258,6 +260,12 @@ class Talk:
         return (
             f"the id {twin[1]!r}, a {twin[0]}, was asked with, and {id_!r} is a {(key_of(id_) or ('',))[0]}: "
         )
+
+    def _method_of(self, asker: str, entry: Entry) -> str:
+        """What an entry is an answer to, if such a request is open."""
+        key = key_of(entry.id)
+        some = self.sides[asker].open.get(key) if key is not None else None
+        return f"{shown(some[0].method, _WHY)}: " if some else ""
 
     def _unanswered(self, found: List[Finding]) -> Iterable[Finding]:
         """Findings about requests that were seen before, with their words."""

@@ -17,6 +17,7 @@ once : goal.After-who_answers_what_was_asked_is_not_accused → AnswersOnce
 once c = record {
   alone = c.each_unit_is_answered_in_its_form.ensures.alone;
   together = c.each_unit_is_answered_in_its_form.ensures.together;
+  arrays = c.each_unit_is_answered_in_its_form.ensures.arrays;
 }
 
 pub returns-clause-otherwise : goal.returns-clause-otherwise
@@ -27,7 +28,7 @@ returns-clause-otherwise c = λ protocol framing limits seen side connection his
 
 pub returns-clause-always : goal.returns-clause-always
 returns-clause-always c = λ protocol framing limits seen side connection history told n is takes.
-    let taken = all_taken connection.settings takes (placed_contents (seen_of protocol framing limits seen (other side))) in
+    let taken = all_taken protocol connection.settings takes (placed_contents (seen_of protocol framing limits seen (other side))) in
     c.who_answers_what_was_asked_is_not_accused.ensures protocol framing limits seen side
     (says (laws c) (once c) protocol framing limits seen side connection history is.in_time taken)
     (counts_by (laws c) (once c) protocol framing limits seen side connection history is.in_time taken)

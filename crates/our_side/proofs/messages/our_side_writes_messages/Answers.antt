@@ -25,13 +25,13 @@ frames c = record {
 }
 
 of_messages : IsFair is_of_messages
-of_messages = record { code = refl; name = refl; cancel_params = refl; cancel_unknown = refl; cancel_initialize = refl; not_judged = refl; line_end = refl; batch = refl; cut_off = refl; unanswered = refl; cancelled_code = refl; after_cancel = refl }
+of_messages = record { code = refl; name = refl; cancel_params = refl; cancel_unknown = refl; cancel_initialize = refl; not_judged = refl; line_end = refl; batch = refl; params_object = refl; result_object = refl; cut_off = refl; unanswered = refl; cancelled_code = refl; after_cancel = refl }
 
 of_ids : IsFair is_of_ids
-of_ids = record { code = refl; name = refl; cancel_params = refl; cancel_unknown = refl; cancel_initialize = refl; not_judged = refl; line_end = refl; batch = refl; cut_off = refl; unanswered = refl; cancelled_code = refl; after_cancel = refl }
+of_ids = record { code = refl; name = refl; cancel_params = refl; cancel_unknown = refl; cancel_initialize = refl; not_judged = refl; line_end = refl; batch = refl; params_object = refl; result_object = refl; cut_off = refl; unanswered = refl; cancelled_code = refl; after_cancel = refl }
 
 of_use : IsFair is_of_use
-of_use = record { code = refl; name = refl; cancel_params = refl; cancel_unknown = refl; cancel_initialize = refl; not_judged = refl; line_end = refl; batch = refl; cut_off = refl; unanswered = refl; cancelled_code = refl; after_cancel = refl }
+of_use = record { code = refl; name = refl; cancel_params = refl; cancel_unknown = refl; cancel_initialize = refl; not_judged = refl; line_end = refl; batch = refl; params_object = refl; result_object = refl; cut_off = refl; unanswered = refl; cancelled_code = refl; after_cancel = refl }
 
 pub returns-clause-messages : goal.returns-clause-messages
 returns-clause-messages c = λ protocol framing limits seen side connection history told n is. writes (laws c) protocol framing limits seen side connection history told n is (frames c) is_of_messages of_messages refl refl refl

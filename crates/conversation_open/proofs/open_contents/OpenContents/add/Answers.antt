@@ -3,7 +3,7 @@ use Rattle.number_windows.specs.Windows.{window_entries}
 use Rattle.number_windows.specs.Numbered.{Above, Below}
 use Rattle.number_windows.proofs.Numbered.{below_push, above_push, at_below}
 use Rattle.conversation_open.specs.Open.{open_entries}
-use Rattle.conversation_open.proofs.Indexed.{indexed_come}
+use Rattle.conversation_open.proofs.Indexed.{indexed_come, indexed_kept}
 use Rattle.conversation_open.proofs.open_contents.OpenContents.add.Goals as goal
 
 pub returns-clause-stands : goal.returns-clause-stands
@@ -18,6 +18,17 @@ returns-clause-stands c =
       window = c.push.ensures.window;
       above = subst (λ fs. Above 0 fs) (sym is) (above_push 0 number c.args.due es (omega arith) c.requires.stands.above);
       below = subst (λ fs. Below (suc number) fs) (sym is) (below_push number (suc number) number c.args.due es (omega arith) (omega arith) under);
-      indexed = indexed_come c.note_content.new.marks c.args.self.now.marks (window_entries c.push.new.self) es number c.args.due c.requires.stands.indexed is (at_below number es under) c.requires.none
+      indexed = indexed_come c.note_content.new.self c.args.self.now.index (window_entries c.push.new.self) es number c.args.due c.requires.stands.indexed is (at_below number es under) c.requires.none
           c.in_ok-note_content.ensures.noted c.note_content.ensures.kept;
+    }
+
+pub returns-in_err-note_content-clause-stands : goal.returns-in_err-note_content-clause-stands
+returns-in_err-note_content-clause-stands c =
+    let es = open_entries c.args.self.now in
+    let now = window_entries c.make_room.new.self in
+    record {
+      window = c.make_room.ensures.window;
+      above = subst (λ fs. Above 0 fs) (sym c.make_room.ensures.entries) c.requires.stands.above;
+      below = subst (λ fs. Below (suc c.args.self.now.last) fs) (sym c.make_room.ensures.entries) c.requires.stands.below;
+      indexed = indexed_kept c.note_content.new.self c.args.self.now.index now es c.requires.stands.indexed c.make_room.ensures.entries c.note_content.ensures.kept;
     }

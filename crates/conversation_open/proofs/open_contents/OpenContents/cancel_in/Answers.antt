@@ -7,13 +7,13 @@ use Rattle.conversation_open.specs.Open.{open_entries}
 use Rattle.conversation_open.proofs.Indexed.{indexed_cancelled}
 use Rattle.conversation_open.proofs.open_contents.OpenContents.cancel_in.Goals as goal
 
-pub returns-clause-stands : goal.returns-clause-stands
-returns-clause-stands c =
+pub forget_cancelled-requires : goal.forget_cancelled-requires
+forget_cancelled-requires c =
     let es = open_entries c.args.self.now in
     let now = window_entries c.cancel_at.new.dues in
     record {
       window = c.cancel_at.ensures.window;
       above = subst (λ fs. Above 0 fs) (sym c.cancel_at.ensures.entries) (above_changed 0 c.args.number (cancelled_in c.args.settles c.args.id.now) es c.requires.above);
       below = subst (λ fs. Below (suc c.args.self.now.last) fs) (sym c.cancel_at.ensures.entries) (below_changed (suc c.args.self.now.last) c.args.number (cancelled_in c.args.settles c.args.id.now) es c.requires.below);
-      indexed = indexed_cancelled c.args.self.now.marks now es c.args.number c.args.settles c.args.id.now c.requires.indexed c.cancel_at.ensures.entries;
+      indexed = indexed_cancelled c.args.self.now.index now es c.args.number c.args.settles c.args.id.now c.requires.indexed c.cancel_at.ensures.entries;
     }

@@ -29,7 +29,17 @@ returns-clause-stands c =
       above = either_entries c.push_at.result (Above 0) es now (changed_at c.in-Some.number (and_owed c.args.owed) es) c.push_at.ensures.ok c.push_at.ensures.err (above_changed 0 c.in-Some.number (and_owed c.args.owed) es c.requires.above) c.requires.above;
       below = either_entries c.push_at.result (Below (suc c.args.self.now.last)) es now (changed_at c.in-Some.number (and_owed c.args.owed) es) c.push_at.ensures.ok c.push_at.ensures.err
           (below_changed (suc c.args.self.now.last) c.in-Some.number (and_owed c.args.owed) es c.requires.below) c.requires.below;
-      indexed = either_entries c.push_at.result (IsIndexed c.note_entry.new.marks) es now (changed_at c.in-Some.number (and_owed c.args.owed) es) c.push_at.ensures.ok c.push_at.ensures.err
-          (indexed_owed c.note_entry.new.marks c.args.self.now.marks (changed_at c.in-Some.number (and_owed c.args.owed) es) es c.in-Some.number c.args.owed c.requires.indexed refl c.in_ok-note_entry.ensures.noted c.note_entry.ensures.kept)
-          (indexed_kept c.note_entry.new.marks c.args.self.now.marks es es c.requires.indexed refl c.note_entry.ensures.kept);
+      indexed = either_entries c.push_at.result (IsIndexed c.note_entry.new.self) es now (changed_at c.in-Some.number (and_owed c.args.owed) es) c.push_at.ensures.ok c.push_at.ensures.err
+          (indexed_owed c.note_entry.new.self c.args.self.now.index (changed_at c.in-Some.number (and_owed c.args.owed) es) es c.in-Some.number c.args.owed c.is_batch_at-is_batch.result c.requires.indexed refl c.is_batch_at-is_batch.ensures c.in_ok-note_entry.ensures.noted c.in_ok-note_entry.ensures.request c.note_entry.ensures.kept)
+          (indexed_kept c.note_entry.new.self c.args.self.now.index es es c.requires.indexed refl c.note_entry.ensures.kept);
+    }
+
+pub returns-in_err-note_entry-clause-stands : goal.returns-in_err-note_entry-clause-stands
+returns-in_err-note_entry-clause-stands c =
+    let es = open_entries c.args.self.now in
+    record {
+      window = c.requires.window;
+      above = c.requires.above;
+      below = c.requires.below;
+      indexed = indexed_kept c.note_entry.new.self c.args.self.now.index es es c.requires.indexed refl c.note_entry.ensures.kept;
     }

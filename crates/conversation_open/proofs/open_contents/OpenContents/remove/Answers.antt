@@ -14,7 +14,7 @@ returns-in-Some-clause-stands c =
       window = c.remove.ensures.window;
       above = subst (λ fs. Above 0 fs) (sym c.remove.ensures.entries) (above_filter 0 (λ e. not (c.args.number == e.0)) es c.requires.above);
       below = subst (λ fs. Below (suc c.args.self.now.last) fs) (sym c.remove.ensures.entries) (below_filter (suc c.args.self.now.last) (λ e. not (c.args.number == e.0)) es c.requires.below);
-      indexed = indexed_gone c.forget_content.new.marks c.args.self.now.marks now es c.args.number c.requires.indexed c.remove.ensures.entries c.forget_content.ensures;
+      indexed = indexed_gone c.forget_content.new.self c.args.self.now.index now es c.args.number c.requires.indexed c.remove.ensures.entries c.forget_content.ensures;
     }
 
 pub returns-in_default-clause-stands : goal.returns-in_default-clause-stands
@@ -25,5 +25,5 @@ returns-in_default-clause-stands c =
       window = c.remove.ensures.window;
       above = subst (λ fs. Above 0 fs) (sym c.remove.ensures.entries) (above_filter 0 (λ e. not (c.args.number == e.0)) es c.requires.above);
       below = subst (λ fs. Below (suc c.args.self.now.last) fs) (sym c.remove.ensures.entries) (below_filter (suc c.args.self.now.last) (λ e. not (c.args.number == e.0)) es c.requires.below);
-      indexed = indexed_gone c.args.self.now.marks c.args.self.now.marks now es c.args.number c.requires.indexed c.remove.ensures.entries (λ m n apart. refl);
+      indexed = indexed_gone c.args.self.now.index c.args.self.now.index now es c.args.number c.requires.indexed c.remove.ensures.entries (record { singles = λ m n apart. refl; batches = λ m n apart. refl; uncancelled = λ m n apart. refl });
     }

@@ -13,7 +13,7 @@ forget-requires c =
       window = c.take_at.ensures.window;
       above = subst (λ fs. Above 0 fs) (sym c.take_at.ensures.entries) (above_changed 0 c.args.number (and_removed c.args.place) es c.requires.above);
       below = subst (λ fs. Below (suc c.args.self.now.last) fs) (sym c.take_at.ensures.entries) (below_changed (suc c.args.self.now.last) c.args.number (and_removed c.args.place) es c.requires.below);
-      indexed = indexed_removed c.args.self.now.marks (window_entries c.take_at.new.dues) es c.args.number c.args.place c.requires.indexed c.take_at.ensures.entries;
+      indexed = indexed_removed c.args.self.now.index (window_entries c.take_at.new.dues) es c.args.number c.args.place c.requires.indexed c.take_at.ensures.entries;
     }
 
 pub returns-in_default-clause-stands : goal.returns-in_default-clause-stands
@@ -23,5 +23,5 @@ returns-in_default-clause-stands c =
       window = c.take_at.ensures.window;
       above = subst (λ fs. Above 0 fs) (sym c.take_at.ensures.entries) (above_changed 0 c.args.number (and_removed c.args.place) es c.requires.above);
       below = subst (λ fs. Below (suc c.args.self.now.last) fs) (sym c.take_at.ensures.entries) (below_changed (suc c.args.self.now.last) c.args.number (and_removed c.args.place) es c.requires.below);
-      indexed = indexed_removed c.args.self.now.marks (window_entries c.take_at.new.dues) es c.args.number c.args.place c.requires.indexed c.take_at.ensures.entries;
+      indexed = indexed_removed c.args.self.now.index (window_entries c.take_at.new.dues) es c.args.number c.args.place c.requires.indexed c.take_at.ensures.entries;
     }
