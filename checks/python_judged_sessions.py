@@ -28,6 +28,8 @@ TEXTS = {
     "notes.txt": "Roses are red.\nVoilets are are blue.\nThey are.\n",
     "words.txt": "and are blue not red roses they violets",
 }
+# what a client says last (LSP, Exit Notification), in a frame
+EXIT = re.compile(rb'Content-Length: \d+\r\n\r\n\{[^\r\n]*"method": ?"exit"[^\r\n]*\}')
 FOUND = re.compile(r"^judge: (?:must|should|note): (client|server), .*?: ([a-z-]+) \(", re.M)
 
 
@@ -42,6 +44,7 @@ class Server(NamedTuple):
     comment: str
     found: set[str]  # what examples/judge/README.md has of it, as "server progress-token"
     is_kept: bool = True  # whether its recordings are
+    ends_first: bool = False  # whether it ends before its client does: it may have ended before it read what came last
 
     @property
     def name(self) -> str:
@@ -85,6 +88,7 @@ OTHERS = [
         "# ",
         {"server unanswered"},
         is_kept=False,
+        ends_first=True,
     ),
     Server(
         [*PERL, "Perl::LanguageServer::run"], "words.pl", "perl", 9, 14, "# ", {"server shape-result"}, is_kept=False
@@ -95,8 +99,9 @@ OTHERS = [
 class Room:
     """A folder in which a session runs."""
 
-    def __init__(self, name: str, kept: str = "") -> None:
+    def __init__(self, name: str, kept: str = "", ends_first: bool = False) -> None:
         self.name, self.kept = name, kept  # (and by which name its recording is kept)
+        self.ends_first = ends_first
         self.at = os.path.join(ran.ROOM.name, re.sub(r"\W", "_", name))
         self.home = f"{self.at}.home"
         for it in (self.at, self.home):
@@ -168,10 +173,11 @@ def renamed(data: bytes, folder: bytes) -> bytes:
 def check_ends(count: ran.Count, room: Room, rules: str) -> None:
     ends = (f"{rules}.outer", f"{rules}.inner")
     for way in ("in", "out", "status"):
-        one, other = (room.read(f"{it}.{way}") for it in ends)
-        count.check(
-            f"{room.name}, {rules}: both ends have the same {way}", one == other and one, f"{len(one)} {len(other)}"
-        )
+        outer, inner = (room.read(f"{it}.{way}") for it in ends)
+        # (what a client still says to a server that has ended reaches nobody: `exit`, behind `shutdown`)
+        rest = outer[len(inner) :] if way == "in" and room.ends_first else b""
+        same = inner and outer == inner + rest and (not rest or EXIT.fullmatch(rest))
+        count.check(f"{room.name}, {rules}: both ends have the same {way}", same, f"{len(outer)} {len(inner)} {rest!r}")
 
 
 def found_in(room: Room, rules: str) -> set[str]:
@@ -190,7 +196,8 @@ def put_sources(room: Room) -> None:
 
 
 def neovim(count: ran.Count, server: Server) -> None:
-    room = Room(f"Neovim with {server.name}", f"{server.name}_neovim" if server.is_kept else "")
+    kept = f"{server.name}_neovim" if server.is_kept else ""
+    room = Room(f"Neovim with {server.name}", kept, server.ends_first)
     put_sources(room)
     more = {"FILE": server.file, "LANGUAGE": server.language, "LINE": str(server.line), "COLUMN": str(server.column)}
     more.update(ADDED=server.comment, KNOWS="yes" if server.knows else "no")

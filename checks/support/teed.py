@@ -1,7 +1,7 @@
 """usage: teed.py NAME COMMAND [WORD ..]    runs a command, and keeps what goes through it
 
 What comes in is in NAME.in, what goes out in NAME.out, and the command's status in NAME.status. Each byte goes on as soon
-as it came."""
+as it came and is kept."""
 import os
 import subprocess
 import sys
@@ -13,10 +13,10 @@ def copy(source: int, sink: int, file: str) -> None:
     kept = os.open(file, os.O_WRONLY | os.O_CREAT | os.O_TRUNC, 0o666)
     try:
         while data := os.read(source, 1 << 16):
+            os.write(kept, data)  # (first, so that what comes behind it is never more than what is kept here)
             view = memoryview(data)
             while view:
                 view = view[os.write(sink, view) :]
-            os.write(kept, data)
     except OSError:
         pass
     os.close(kept)
