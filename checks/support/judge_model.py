@@ -510,15 +510,13 @@ class Judge:
             return None
         if entry.id is None:
             return self.owed_to_null(side, entry, in_array)
-        return self.first(
-            side,
-            (False, lambda it: is_expected(it, entry.id) and it.is_request),
-            (False, lambda it: is_expected(it, entry.id)),
-            (False, lambda it: entry.id in it.may),
-            (True, lambda it: is_expected(it, entry.id) and it.is_request),
-            (True, lambda it: is_expected(it, entry.id)),
-            (True, lambda it: entry.id in it.may),
+        ways: tuple[Callable[[Owed], bool], ...] = (
+            lambda it: is_expected(it, entry.id) and it.must,
+            lambda it: is_expected(it, entry.id) and it.is_request,
+            lambda it: is_expected(it, entry.id),
+            lambda it: entry.id in it.may,
         )
+        return self.first(side, *((in_batch, it) for in_batch in (False, True) for it in ways))
 
     def owed_to_null(self, side: str, entry: Entry, in_array: bool) -> Optional[tuple[Due, Optional[Owed]]]:
         """What expects null, and what may have it; but where it may be for a whole content, only what stands alone and
@@ -555,17 +553,19 @@ class Judge:
         return None
 
     def batch_of(self, side: str, answers: list[Answer]) -> Optional[Due]:
-        """The batch that an array answers: the oldest from which just these ids are expected, else the oldest whose answer
-        it can be."""
-        just = self.just(side, answers)
+        """The batch that an array answers: the oldest from which just these ids are expected, first where an answer must
+        come, else the oldest whose answer it can be."""
+        just = self.just(side, answers, must=True) or self.just(side, answers)
         if just is not None:
             return just
         return next((it for it in self.sides[side].dues if it.is_batch and can_be_answered(it, answers)), None)
 
-    def just(self, side: str, answers: list[Answer]) -> Optional[Due]:
-        """The oldest batch from which just the ids of these answers are expected, each as often."""
+    def just(self, side: str, answers: list[Answer], must: bool = False) -> Optional[Due]:
+        """The oldest batch from which just the ids of these answers are expected, each as often; or that must be answered."""
         ids = Counter(it.entry.id for it in answers if it.entry.id is not ABSENT)
         for due in self.sides[side].dues:
+            if must and not any(it.must for it in due.entries):
+                continue
             if due.is_batch and ids and Counter(it.expected for it in due.entries if it.expected is not ABSENT) == ids:
                 return due
         return None

@@ -334,6 +334,24 @@ WRONGS = (
         'self.find(side, "empty-array", MUST, place, "[]")\n',
         'self.find(side, "empty-array", MUST, place, "[]")\n            self.sides[OTHER[side]].unowed += 1\n',
     ),
+    Wrong(
+        "an answer is for the oldest request of its id",
+        "judge_model",
+        "            lambda it: is_expected(it, entry.id) and it.must,\n",
+        "",
+    ),
+    Wrong(
+        "an array is for the oldest batch of its ids",
+        "judge_model",
+        "self.just(side, answers, must=True) or ",
+        "",
+    ),
+    Wrong(
+        "what must be answered comes first in batches too",
+        "judge_model",
+        "*((in_batch, it) for in_batch in (False, True) for it in ways)",
+        "(False, ways[0]), (True, ways[0]), *((in_batch, it) for in_batch in (False, True) for it in ways[1:])",
+    ),
     Wrong("an array is refused twice", "judge_model", "self.sides[side].unowed -= 1", "pass"),
     Wrong(
         "such an array is refused before what is open",

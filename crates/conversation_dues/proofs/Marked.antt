@@ -8,7 +8,7 @@ use Rattle.conversation_dues.proofs.Left.{position-first, without-is}
 use Rattle.conversation_dues.specs.Answered.{is_answered}
 use Rattle.conversation_dues.specs.Left.{expected_of}
 use Rattle.conversation_dues.specs.declared.batches.Answer.{Answer}
-use Rattle.conversation_dues.specs.declared.batches.Answer.TheVariants.{Just, Possible}
+use Rattle.conversation_dues.specs.declared.batches.Answer.TheVariants.{JustDue, Just, Possible}
 use Rattle.conversation_ids.specs.Marks.{mark_of, null_mark}
 use Rattle.conversation_ids.proofs.OneMark.{one_mark}
 use Rattle.conversation_ids.specs.OwedMarks.{has_mark, entry_has, content_has, due_has}
@@ -16,11 +16,11 @@ use Rattle.conversation_reading.specs.declared.entry.WrittenId.{WrittenId}
 use Rattle.conversation_reading.specs.declared.entry.WrittenId.TheVariants.{Null, Text, Number}
 use Rattle.conversation_rules.specs.Amounts.{is_null}
 use Rattle.conversation_rules.specs.Dues.{ids_read}
-use Rattle.conversation_rules.specs.Matching.{place_in, taken_by, left_by, nulls_last, same_ids, is_just, can_be_answered, leaves_no_request, expects_null, is_null_request, is_null_other, is_request_for}
+use Rattle.conversation_rules.specs.Matching.{place_in, taken_by, left_by, nulls_last, same_ids, is_just, can_be_answered, leaves_no_request, expects_null, is_null_request, is_null_other, is_due_for, is_request_for, is_just_due}
 use Rattle.conversation_rules.specs.Owed.{Owed, Due, has_id, is_expected, may_have}
 use Rattle.conversation_ids.specs.Ways.{fits}
 use Rattle.conversation_ids.specs.declared.ways.Way.{Way}
-use Rattle.conversation_ids.specs.declared.ways.Way.TheVariants.{Asks, Expects, MayHave, AsksWithNull, ExpectsNull, Unnamed, MayBeNull}
+use Rattle.conversation_ids.specs.declared.ways.Way.TheVariants.{Must, Asks, Expects, MayHave, AsksWithNull, ExpectsNull, Unnamed, MayBeNull}
 
 or_first : (a b : Bool) → a ≡ true → (a || b) ≡ true
 or_first true b is = refl
@@ -194,12 +194,15 @@ possible_none id ids unnamed due none =
     (ap (λ o. option_map_or (leaves_no_request unnamed) o false) (left_none id (nulls_last (id ∷ ids)) due.entries (among_nulls id ids) (entries_none (mark_of id) due none)))
 
 pub unanswered_by : (answer : Answer) (ids : List (Option WrittenId)) (id : WrittenId) (others : List WrittenId) (due : Due) → ids_read ids ≡ id ∷ others → due_has (mark_of id) due ≡ false → is_answered answer ids due ≡ false
+unanswered_by JustDue ids id others due is none =
+    ap (λ read. is_just_due read due) is ∙ and_none (list_any (λ owed. owed.must) due.entries) (is_just (id ∷ others) due) (just_none id others due none)
 unanswered_by Just ids id others due is none = ap (λ read. is_just read due) is ∙ just_none id others due none
 unanswered_by Possible ids id others due is none = ap (λ read. can_be_answered read (count_by is_none ids) due) is ∙ possible_none id others (count_by is_none ids) due none
 
 -- ---- each way, and what is looked for
 
 abbrev way_mark : Way → WrittenId → ℕ
+way_mark Must id = mark_of id
 way_mark Asks id = mark_of id
 way_mark Expects id = mark_of id
 way_mark MayHave id = mark_of id
@@ -212,6 +215,7 @@ other_none : (owed : Owed) → entry_has null_mark owed ≡ false → is_null_ot
 other_none owed none = unless (entry_has null_mark owed) (is_null_other owed) (λ is. null_expected owed (and_second (not owed.is_request) (expects_null owed) is)) none
 
 pub way_none : (way : Way) (id : WrittenId) (owed : Owed) → entry_has (way_mark way id) owed ≡ false → fits way id owed ≡ false
+way_none Must id owed none = unless (entry_has (mark_of id) owed) (is_due_for id owed) (λ is. expected_found id owed (and_second owed.must (is_expected id owed) is)) none
 way_none Asks id owed none = unless (entry_has (mark_of id) owed) (is_request_for id owed) (λ is. expected_found id owed (and_second owed.is_request (is_expected id owed) is)) none
 way_none Expects id owed none = unless (entry_has (mark_of id) owed) (is_expected id owed) (expected_found id owed) none
 way_none MayHave id owed none = unless (entry_has (mark_of id) owed) (may_have id owed) (may_found id owed) none

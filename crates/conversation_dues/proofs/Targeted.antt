@@ -5,13 +5,13 @@ use Rattle.std.specs.List.{list_any}
 use Rattle.std.specs.Option.{option_map_or, is_none}
 use Rattle.conversation_dues.specs.Answered.{is_answered}
 use Rattle.conversation_dues.specs.declared.batches.Answer.{Answer}
-use Rattle.conversation_dues.specs.declared.batches.Answer.TheVariants.{Just, Possible}
+use Rattle.conversation_dues.specs.declared.batches.Answer.TheVariants.{JustDue, Just, Possible}
 use Rattle.conversation_ids.specs.OwedMarks.{due_has}
 use Rattle.conversation_open.specs.Open.{among_has}
 use Rattle.conversation_open.specs.declared.among.Among.TheVariants.{Batches}
 use Rattle.conversation_reading.specs.declared.entry.WrittenId.{WrittenId}
 use Rattle.conversation_rules.specs.Dues.{ids_read, array_target}
-use Rattle.conversation_rules.specs.Matching.{is_just, can_be_answered, batch_target, is_guess, same_ids, expected_ids, left_by, leaves_no_request, nulls_last}
+use Rattle.conversation_rules.specs.Matching.{is_just_due, is_just, can_be_answered, left_batch_target, batch_target, is_guess, same_ids, expected_ids, left_by, leaves_no_request, nulls_last}
 use Rattle.conversation_rules.specs.Owed.{Due}
 
 no_ids : (ids : List (Option WrittenId)) → list_any is_some ids ≡ false → ids_read ids ≡ []
@@ -27,19 +27,22 @@ some_ids (Some id ∷ ids) some none = let e : id ∷ ids_read ids ≡ [] = none
 pub none_named : (ids : List (Option WrittenId)) (dues : List Due) → list_any is_some ids ≡ false → None ≡ array_target ids dues
 none_named ids dues none = sym (ap (λ read. batch_target read (count_by is_none ids) dues) (no_ids ids none))
 
-target-by : (read : List WrittenId) (unnamed : ℕ) (dues : List Due) → (read ≡ [] → ⊥) → option_map_or Some (position (is_just read) dues) (position (can_be_answered read unnamed) dues) ≡ batch_target read unnamed dues
+target-by : (read : List WrittenId) (unnamed : ℕ) (dues : List Due) → (read ≡ [] → ⊥) → option_map_or Some (position (is_just_due read) dues) (left_batch_target read unnamed dues) ≡ batch_target read unnamed dues
 target-by [] unnamed dues some = absurd (some refl)
 target-by (id ∷ ids) unnamed dues some = refl
 
-pub just_target : (ids : List (Option WrittenId)) (dues : List Due) (content : ℕ) → list_any is_some ids ≡ true → position (is_just (ids_read ids)) dues ≡ Some content → Some content ≡ array_target ids dues
-just_target ids dues content some is =
-    sym (ap (λ o. option_map_or Some o (position (can_be_answered (ids_read ids) (count_by is_none ids)) dues)) is)
-    ∙ target-by (ids_read ids) (count_by is_none ids) dues (some_ids ids some)
+module _ (ids : List (Option WrittenId)) (dues : List Due) (some : list_any is_some ids ≡ true) where
+  abbrev left : Option ℕ
+  left = left_batch_target (ids_read ids) (count_by is_none ids) dues
 
-pub other_target : (ids : List (Option WrittenId)) (dues : List Due) → list_any is_some ids ≡ true → position (is_just (ids_read ids)) dues ≡ None → position (can_be_answered (ids_read ids) (count_by is_none ids)) dues ≡ array_target ids dues
-other_target ids dues some is =
-    sym (ap (λ o. option_map_or Some o (position (can_be_answered (ids_read ids) (count_by is_none ids)) dues)) is)
-    ∙ target-by (ids_read ids) (count_by is_none ids) dues (some_ids ids some)
+  target-is : (o : Option ℕ) → position (is_just_due (ids_read ids)) dues ≡ o → array_target ids dues ≡ option_map_or Some o left
+  target-is o is = sym (target-by (ids_read ids) (count_by is_none ids) dues (some_ids ids some)) ∙ ap (λ due. option_map_or Some due left) is
+
+  pub due_target : (content : ℕ) → position (is_just_due (ids_read ids)) dues ≡ Some content → array_target ids dues ≡ Some content
+  due_target content is = target-is (Some content) is
+
+  pub left_target : position (is_just_due (ids_read ids)) dues ≡ None → array_target ids dues ≡ left
+  left_target none = target-is None none
 
 pub if_ok_then : {X E : Type 0} {P Q : X → Type 0} (r : Result X E) → ((x : X) → P x → Q x) → IfOk r P → IfOk r Q
 if_ok_then (Ok x) f p = f x p
@@ -78,8 +81,17 @@ guessed ids dues o named open_one found =
 
 -- ---- what is no batch is answered by no array
 
+and_false : (b : Bool) → (b && false) ≡ false
+and_false true = refl
+and_false false = refl
+
+no_batch_just : (ids : List (Option WrittenId)) (due : Due) → due.is_batch ≡ false → is_just (ids_read ids) due ≡ false
+no_batch_just ids due none = ap (λ b. b && same_ids (ids_read ids) (expected_ids due)) none
+
 no_batch_answered : (answer : Answer) (ids : List (Option WrittenId)) (due : Due) → due.is_batch ≡ false → is_answered answer ids due ≡ false
-no_batch_answered Just ids due none = ap (λ b. b && same_ids (ids_read ids) (expected_ids due)) none
+no_batch_answered JustDue ids due none =
+    ap (λ b. list_any (λ owed. owed.must) due.entries && b) (no_batch_just ids due none) ∙ and_false (list_any (λ owed. owed.must) due.entries)
+no_batch_answered Just ids due none = no_batch_just ids due none
 no_batch_answered Possible ids due none = ap (λ b. b && option_map_or (leaves_no_request (count_by is_none ids)) (left_by (nulls_last (ids_read ids)) due.entries) false) none
 
 pub not_answered : (answer : Answer) (ids : List (Option WrittenId)) (due : Due) (mark : ℕ) → (due_has mark due ≡ false → is_answered answer ids due ≡ false) → among_has Batches mark due ≡ false → is_answered answer ids due ≡ false

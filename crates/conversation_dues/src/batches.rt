@@ -1,15 +1,15 @@
 //! The batch that an array of answers is for.
 
-ghost use Rattle.std.specs.Prelude.{◌≡◌, true, false, is_some, option_map, IfOk};
+ghost use Rattle.std.specs.Prelude.{◌≡◌, true, false, is_some, option_map, count_by, IfOk};
 ghost use Rattle.std.specs.List.{list_any};
-ghost use Rattle.std.specs.Option.{option_map_or};
+ghost use Rattle.std.specs.Option.{option_map_or, is_none};
 ghost use Rattle.conversation_dues.specs.Answered.{is_answered};
 ghost use Rattle.conversation_dues.specs.Found.{first_of, index_of, whole_if};
 ghost use Rattle.conversation_dues.specs.declared.batches.Answer.{Answer as AnswerValue};
 ghost use Rattle.conversation_open.specs.Open.{open_entries, contents_of, IsOpen};
 ghost use Rattle.conversation_ids.specs.OwedMarks.{due_has};
 ghost use Rattle.conversation_rules.specs.Dues.{array_target, ids_read};
-ghost use Rattle.conversation_rules.specs.Matching.{is_guess};
+ghost use Rattle.conversation_rules.specs.Matching.{is_guess, left_batch_target};
 ghost use Rattle.conversation_rules.specs.Owed.{Due as DueValue};
 ghost use Rattle.number_windows.specs.Numbered.{at};
 
@@ -21,7 +21,7 @@ use conversation_reading::WrittenId;
 use std::alloc::{AllocError, Global};
 
 /// The number of the batch that an array of answers with these ids is for: the oldest from which just these are expected,
-/// else the oldest whose answer they can be.
+/// first where an answer must come, else the oldest whose answer they can be.
 pub(crate) fn array_target(
     alloc: Global,
     contents: &OpenContents,
@@ -34,6 +34,24 @@ pub(crate) fn array_target(
     if !has_named(ids) {
         return Ok(None);
     }
+    match first_batch(alloc, Answer::JustDue, contents, ids)? {
+        Some(number) => Ok(Some(number)),
+        None => left_array_target(alloc, contents, ids),
+    }
+}
+
+/// The same where no answer must come of a batch from which just these ids are expected.
+fn left_array_target(
+    alloc: Global,
+    contents: &OpenContents,
+    ids: &[Option<WrittenId>],
+) -> Result<Option<u64>, AllocError>
+    requires stands { IsOpen contents.now }
+    requires named { list_any is_some ids.now ≡ true }
+    ensures { IfOk result (λ number.
+        left_batch_target (ids_read ids.now) (count_by is_none ids.now) (contents_of (open_entries contents.now)) ≡
+        option_map (λ n. index_of n (open_entries contents.now)) number) }
+{
     match first_batch(alloc, Answer::Just, contents, ids)? {
         Some(number) => Ok(Some(number)),
         None => first_batch(alloc, Answer::Possible, contents, ids),
@@ -69,6 +87,8 @@ fn has_named(ids: &[Option<WrittenId>]) -> bool
 /// Of a batch whose answer an array is.
 #[derive(Clone, Copy)]
 enum Answer {
+    /// Just these ids are expected, and an answer must come.
+    JustDue,
     /// Just these ids are expected.
     Just,
     /// It can be its answer.
@@ -123,6 +143,13 @@ fn is_answered(
     ensures { IfOk result (λ b. b ≡ is_answered answer ids.now due.now) }
 {
     match answer {
+        Answer::JustDue => {
+            if due.must_be_answered() {
+                is_just(alloc, due, ids)
+            } else {
+                Ok(false)
+            }
+        }
         Answer::Just => is_just(alloc, due, ids),
         Answer::Possible => {
             let unnamed = ids.iter().filter(|id| id.is_none()).count();

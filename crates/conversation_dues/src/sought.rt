@@ -124,6 +124,7 @@ fn mark_of_way(way: Way, id: &WrittenId) -> u128
     ensures { (owed : OwedValue) → entry_has result owed ≡ false → fits way id.now owed ≡ false }
 {
     match way {
+        Way::Must => mark_of(id),
         Way::Asks => mark_of(id),
         Way::Expects => mark_of(id),
         Way::MayHave => mark_of(id),

@@ -6,7 +6,7 @@ ghost use Rattle.conversation_dues.specs.Found.{target_at, whole_target};
 ghost use Rattle.conversation_open.specs.Open.{open_entries, contents_of, IsOpen};
 ghost use Rattle.conversation_ids.specs.Ways.{fits};
 ghost use Rattle.conversation_rules.specs.Dues.{may_be_refused, unreadable_target};
-ghost use Rattle.conversation_rules.specs.Matching.{oldest, is_null_other, named_in, named_target, expects_null_in, null_in, null_target, parse_error_target};
+ghost use Rattle.conversation_rules.specs.Matching.{oldest, is_null_other, left_named_in, named_in, named_target, expects_null_in, null_in, null_target, parse_error_target};
 
 use crate::sought::{Sought, first, is_there};
 use conversation_ids::Way;
@@ -56,6 +56,17 @@ pub(crate) fn named_target(contents: &OpenContents, id: &WrittenId) -> Option<Pl
 fn named_in(contents: &OpenContents, batches: bool, id: &WrittenId) -> Option<Place>
     requires { IsOpen contents.now }
     ensures { named_in batches id.now (contents_of (open_entries contents.now)) ≡ target_at (open_entries contents.now) result }
+{
+    match oldest(contents, batches, Way::Must, id) {
+        Some(target) => Some(target),
+        None => left_named_in(contents, batches, id),
+    }
+}
+
+/// The same among what may be left.
+fn left_named_in(contents: &OpenContents, batches: bool, id: &WrittenId) -> Option<Place>
+    requires { IsOpen contents.now }
+    ensures { left_named_in batches id.now (contents_of (open_entries contents.now)) ≡ target_at (open_entries contents.now) result }
 {
     if let Some(target) = oldest(contents, batches, Way::Asks, id) {
         return Some(target);

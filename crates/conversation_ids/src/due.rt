@@ -143,6 +143,13 @@ impl Due {
         }
     }
 
+    /// Whether an entry of it must be answered.
+    pub fn must_be_answered(&self) -> bool
+        ensures { result ≡ list_any (λ owed. owed.must) self.now.entries }
+    {
+        self.entries.iter().any(|owed| owed.must())
+    }
+
     pub fn has_request(&self, id: &WrittenId) -> bool
         ensures { result ≡ list_any (is_request_for id.now) self.now.entries }
     {

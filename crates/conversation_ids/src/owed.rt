@@ -6,7 +6,7 @@ ghost use Rattle.conversation_ids.specs.Inner.{expected_as};
 ghost use Rattle.conversation_ids.specs.OwedMarks.{has_mark, entry_has, request_has};
 ghost use Rattle.conversation_rules.specs.Amounts.{is_odd, is_null};
 ghost use Rattle.conversation_rules.specs.Dues.{cancelled};
-ghost use Rattle.conversation_rules.specs.Matching.{is_request_for, expects_null, is_null_request, is_null_other, is_unnamed};
+ghost use Rattle.conversation_rules.specs.Matching.{is_due_for, is_request_for, expects_null, is_null_request, is_null_other, is_unnamed};
 ghost use Rattle.conversation_rules.specs.Owed.{has_id, is_expected, may_have, request_owed, may_be_left, owed_on, empty_array_owed, only_params, expected_without_params};
 ghost use Rattle.conversation_rules.specs.Protocols.{may_leave_null};
 
@@ -208,6 +208,13 @@ impl Owed {
             Some(first) => has_id(id, first.id()),
             None => false,
         }
+    }
+
+    /// Whether it must be answered, and with this id.
+    pub fn is_due_for(&self, id: &WrittenId) -> bool
+        ensures { result ≡ is_due_for id.now self.now }
+    {
+        self.must && self.is_expected(id)
     }
 
     pub fn is_request_for(&self, id: &WrittenId) -> bool

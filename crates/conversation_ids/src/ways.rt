@@ -7,6 +7,8 @@ use conversation_reading::WrittenId;
 /// In which way an entry fits an answer. The last four are those of an answer with the id null.
 #[derive(Clone, Copy)]
 pub enum Way {
+    /// It must be answered, and with the id.
+    Must,
     /// It is a request that is expected to have the id.
     Asks,
     /// It is expected to have the id.
@@ -28,6 +30,7 @@ impl Way {
         ensures { result ≡ fits self id.now owed.now }
     {
         match self {
+            Way::Must => owed.is_due_for(id),
             Way::Asks => owed.is_request_for(id),
             Way::Expects => owed.is_expected(id),
             Way::MayHave => owed.may_have(id),

@@ -8,7 +8,7 @@ use Rattle.conversation_reading.specs.declared.entry.WrittenId.{WrittenId}
 use Rattle.conversation_rules.specs.Owed.{Owed, Due, is_expected, may_have}
 use Rattle.conversation_rules.specs.declared.found.Target.{Target}
 use Rattle.conversation_rules.specs.declared.found.Target.TheVariants.{EntryOf, WholeOf}
-use Rattle.conversation_rules.specs.Matching.{later, place_in, oldest, or_else, is_request_for, named_in, named_target, IsFor, takes}
+use Rattle.conversation_rules.specs.Matching.{later, place_in, oldest, or_else, is_due_for, is_request_for, left_named_in, named_in, named_target, IsFor, takes}
 
 -- what stands at the place that `position` gives
 position-is : (fits : Owed → Bool) (entries : List Owed) (place : ℕ) → position fits entries ≡ Some place → IsSomeAnd (slice_get entries place) (λ owed. fits owed ≡ true)
@@ -76,14 +76,20 @@ IfSome-or_else : (P : Target → Type 0) (one other : Option Target) → IfSome 
 IfSome-or_else P (Some target) other is others = is
 IfSome-or_else P None other is others = others
 
-named_in-is : (batches : Bool) (id : WrittenId) (dues : List Due) → IfSome (named_in batches id dues) (λ target. IsFor (takes id) dues target)
-named_in-is batches id dues =
+left_named_in-is : (batches : Bool) (id : WrittenId) (dues : List Due) → IfSome (left_named_in batches id dues) (λ target. IsFor (takes id) dues target)
+left_named_in-is batches id dues =
     let P : Target → Type 0 = λ target. IsFor (takes id) dues target in
     let by_request = IsFor-weaker (is_request_for id) (takes id) (λ owed is. or_left (is_expected id owed) (may_have id owed) (and_right owed.is_request (is_expected id owed) is)) dues (oldest batches (is_request_for id) dues) (oldest-is batches (is_request_for id) dues) in
     let by_expected = IsFor-weaker (is_expected id) (takes id) (λ owed is. or_left (is_expected id owed) (may_have id owed) is) dues (oldest batches (is_expected id) dues) (oldest-is batches (is_expected id) dues) in
     let by_own = IsFor-weaker (may_have id) (takes id) (λ owed is. or_right (is_expected id owed) (may_have id owed) is) dues (oldest batches (may_have id) dues) (oldest-is batches (may_have id) dues) in
     IfSome-or_else P (oldest batches (is_request_for id) dues) (or_else (oldest batches (is_expected id) dues) (oldest batches (may_have id) dues)) by_request
     (IfSome-or_else P (oldest batches (is_expected id) dues) (oldest batches (may_have id) dues) by_expected by_own)
+
+named_in-is : (batches : Bool) (id : WrittenId) (dues : List Due) → IfSome (named_in batches id dues) (λ target. IsFor (takes id) dues target)
+named_in-is batches id dues =
+    IfSome-or_else (λ target. IsFor (takes id) dues target) (oldest batches (is_due_for id) dues) (left_named_in batches id dues)
+    (IsFor-weaker (is_due_for id) (takes id) (λ owed is. or_left (is_expected id owed) (may_have id owed) (and_right owed.must (is_expected id owed) is)) dues (oldest batches (is_due_for id) dues) (oldest-is batches (is_due_for id) dues))
+    (left_named_in-is batches id dues)
 
 pub named_target-is : (id : WrittenId) (dues : List Due) → IfSome (named_target id dues) (λ target. IsFor (takes id) dues target)
 named_target-is id dues = IfSome-or_else (λ target. IsFor (takes id) dues target) (named_in false id dues) (named_in true id dues) (named_in-is false id dues) (named_in-is true id dues)

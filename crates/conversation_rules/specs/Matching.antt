@@ -28,12 +28,20 @@ or_else None other = other
 
 -- ---- a single answer with an id that isn't null
 
+-- it must be answered, and with this id
+abbrev pub is_due_for : WrittenId → Owed → Bool
+is_due_for id owed = owed.must && is_expected id owed
+
 abbrev pub is_request_for : WrittenId → Owed → Bool
 is_request_for id owed = owed.is_request && is_expected id owed
 
--- a request that is expected to have this id, then any entry that is, and then one that may have it
+-- of what may be left: a request that is expected to have this id, then any entry that is, and then one that may have it
+abbrev pub left_named_in : Bool → WrittenId → List Due → Option Target
+left_named_in batches id dues = or_else (oldest batches (is_request_for id) dues) (or_else (oldest batches (is_expected id) dues) (oldest batches (may_have id) dues))
+
+-- What must be answered comes before a request of the same id whose cancel says that it may be left.
 abbrev pub named_in : Bool → WrittenId → List Due → Option Target
-named_in batches id dues = or_else (oldest batches (is_request_for id) dues) (or_else (oldest batches (is_expected id) dues) (oldest batches (may_have id) dues))
+named_in batches id dues = or_else (oldest batches (is_due_for id) dues) (left_named_in batches id dues)
 
 -- and only then with what stands in batches
 abbrev pub named_target : WrittenId → List Due → Option Target
@@ -94,6 +102,10 @@ expected_ids due = filter_map (λ owed. owed.expected) due.entries
 abbrev pub is_just : List WrittenId → Due → Bool
 is_just ids due = due.is_batch && same_ids ids (expected_ids due)
 
+-- and an entry of it must be answered
+abbrev pub is_just_due : List WrittenId → Due → Bool
+is_just_due ids due = list_any (λ owed. owed.must) due.entries && is_just ids due
+
 -- It has to be guessed for which batch an array with these ids is: just these are expected from none that is open.
 abbrev pub is_guess : List WrittenId → List Due → Bool
 is_guess [] dues = false
@@ -102,7 +114,7 @@ is_guess (id ∷ ids) dues = list_any (λ due. due.is_batch) dues && not (list_a
 -- the entry that an answer with this id takes of a batch: a request that must be answered, then one that expects it, then one
 -- that may have it
 abbrev pub taken_by : WrittenId → List Owed → Option ℕ
-taken_by id entries = option_map_or Some (position (λ owed. owed.must && is_expected id owed) entries) (option_map_or Some (position (is_expected id) entries) (position (may_have id) entries))
+taken_by id entries = option_map_or Some (position (is_due_for id) entries) (option_map_or Some (position (is_expected id) entries) (position (may_have id) entries))
 
 -- what is left once each of these has its own entry
 abbrev pub left_by : List WrittenId → List Owed → Option (List Owed)
@@ -120,10 +132,15 @@ leaves_no_request unnamed entries = nat_le (count_by (λ owed. owed.must) entrie
 abbrev pub can_be_answered : List WrittenId → ℕ → Due → Bool
 can_be_answered ids unnamed due = due.is_batch && option_map_or (leaves_no_request unnamed) (left_by (nulls_last ids) due.entries) false
 
--- The batch that the answers in an array are for, by their ids that can be read, and by how many can't.
+-- one from which just these ids are expected, else one whose answer these and so many that can't be read can be
+abbrev pub left_batch_target : List WrittenId → ℕ → List Due → Option ℕ
+left_batch_target ids unnamed dues = option_map_or Some (position (is_just ids) dues) (position (can_be_answered ids unnamed) dues)
+
+-- The batch that the answers in an array are for, by their ids that can be read, and by how many can't. Where just these are
+-- expected, a batch whose answer must come is first.
 abbrev pub batch_target : List WrittenId → ℕ → List Due → Option ℕ
 batch_target [] unnamed dues = None
-batch_target (id ∷ ids) unnamed dues = option_map_or Some (position (is_just (id ∷ ids)) dues) (position (can_be_answered (id ∷ ids) unnamed) dues)
+batch_target (id ∷ ids) unnamed dues = option_map_or Some (position (is_just_due (id ∷ ids)) dues) (left_batch_target (id ∷ ids) unnamed dues)
 
 -- ---- what a target says
 

@@ -10,11 +10,12 @@ ghost use Rattle.content_streams.specs.declared.framing.Framing.{Framing};
 ghost use Rattle.conversation_rules.specs.Judging.{Seen, findings_of, findings_from, state_of};
 ghost use Rattle.conversation_rules.specs.declared.finding.Limits.{Limits as LimitsOf};
 ghost use Rattle.conversation_rules.specs.declared.protocol.Protocol.{Protocol as ProtocolOf};
+ghost use Rattle.conversation_rules.specs.Dues.{cancelled_in};
 ghost use Rattle.conversation_rules.specs.Matching.{IsFor, takes, named_target, null_target, parse_error_target, batch_target};
 ghost use Rattle.conversation_rules.specs.Owed.{Due, unreadable_due};
 ghost use Rattle.conversation_rules.specs.declared.protocol.Protocol.TheVariants.{JsonRpc, Lsp, Mcp};
 ghost use Rattle.conversation_rules.specs.declared.found.Target.TheVariants.{EntryOf, WholeOf};
-ghost use Rattle.conversation_rules.specs.Rows.{request, old_request, null_request, null_call, request_without_params, must_be_answered, expected_of, single, huge, batch};
+ghost use Rattle.conversation_rules.specs.Rows.{request, old_request, null_request, null_call, request_without_params, text_request, must_be_answered, expected_of, single, huge, batch};
 
 /// A single answer with an id that isn't null is for an entry that may have this id, by its value and its type; or for
 /// nothing.
@@ -66,6 +67,9 @@ pub fn single_answers()
         (single (request (codes "7")) ∷ single (request (codes "7")) ∷ []) ≡ Some (EntryOf 0 0) }
     ensures request_first { named_target (Number (codes "7"))
         (single (old_request (codes "7")) ∷ single (request (codes "7")) ∷ []) ≡ Some (EntryOf 1 0) }
+    ensures must_first { named_target (Text (codes "7"))
+        (cancelled_in true (Text (codes "7")) (single (text_request (codes "7")))
+        ∷ single (text_request (codes "7")) ∷ []) ≡ Some (EntryOf 1 0) }
     ensures own_id { named_target (Number (codes "7")) (single (old_request (codes "7")) ∷ [])
         ≡ Some (EntryOf 0 0) }
     ensures batch_last { named_target (Number (codes "7"))
@@ -110,6 +114,9 @@ pub fn answers_of_a_batch()
     ensures just_these { batch_target (Number (codes "7") ∷ Number (codes "8") ∷ []) 0
         (batch (request (codes "7")) (old_request (codes "8"))
         ∷ batch (request (codes "7")) (request (codes "8")) ∷ []) ≡ Some 1 }
+    ensures must_first { batch_target (Text (codes "7") ∷ Null ∷ []) 0
+        (cancelled_in true (Text (codes "7")) (batch (text_request (codes "7")) (number (codes "1")))
+        ∷ batch (text_request (codes "7")) (number (codes "1")) ∷ []) ≡ Some 1 }
     ensures invalid_left_out { batch_target (Number (codes "5") ∷ []) 0
         (batch (number (codes "1")) (request (codes "5")) ∷ []) ≡ Some 0 }
     ensures one_is_missing { batch_target (Number (codes "7") ∷ []) 0

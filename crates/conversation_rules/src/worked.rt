@@ -239,6 +239,8 @@ pub fn cancels()
     ensures initialize { told Mcp (says Client (call (codes "initialize") (codes "0")) ∷ says Client (mcp_cancel (number (codes "0"))) ∷ [])
         ≡ tells Client rules.CancelInitialize Must 2 0 ∷ [] }
     ensures owed_no_longer { told Mcp (says Client (request (codes "7")) ∷ says Client (mcp_cancel (number (codes "7"))) ∷ ends Server Closed ∷ []) ≡ [] }
+    ensures used_again { told Mcp (says Client (text_request (codes "7")) ∷ says Client (mcp_cancel (string (codes "7"))) ∷ says Client (text_request (codes "7"))
+        ∷ says Server (message ((codes "id", string (codes "7")) ∷ outcome ∷ [])) ∷ ends Server Closed ∷ []) ≡ tells Client rules.IdAgain Must 3 0 ∷ [] }
     ensures after_cancel { told Mcp (says Client (request (codes "7")) ∷ says Client (mcp_cancel (number (codes "7"))) ∷ says Server (answer (codes "7")) ∷ [])
         ≡ tells Server rules.AfterCancel Note 1 0 ∷ [] }
     ensures none_in_jsonrpc { told JsonRpc (says Client (lsp_cancel null) ∷ []) ≡ [] }

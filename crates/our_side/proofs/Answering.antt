@@ -17,7 +17,7 @@ use Rattle.conversation_rules.specs.Answers.{target_of_null, single_findings, be
 use Rattle.conversation_rules.specs.Contents.{reading_outcome, sight_of, array_sight, guesses, array_answer_findings, array_other, opened, shut, counted_array, have_huge, are_answers, replies_in, reply_ids, single_other, single_answer_findings, behind_entries}
 use Rattle.conversation_rules.specs.Dues.{closed, owed_more, settled_batch, cancelled_in, ids_read, array_target, array_fits, found_batch}
 use Rattle.conversation_rules.specs.Entries.{is_answer, is_well, may_lack_id, id_by, answer_id, is_cancel, cancelled_by, owed_after_last, is_first_cancel, owed_after_first, owed_after_cancel, behind_entry, id_findings}
-use Rattle.conversation_rules.specs.Matching.{same_ids, expected_ids, is_just, is_guess, can_be_answered, batch_target, named_target, named_in, or_else, oldest, is_request_for}
+use Rattle.conversation_rules.specs.Matching.{same_ids, expected_ids, is_just, is_just_due, is_guess, can_be_answered, left_batch_target, batch_target, named_target, named_in, or_else, oldest, is_due_for, is_request_for}
 use Rattle.conversation_rules.specs.Owed.{Owed, Due, has_twice, first_id, request_owed, may_be_left, new_due, unreadable_due, has_id, has_null_params, is_expected, may_have, expected_without_params, owed_as, owed_on, empty_array_owed}
 use Rattle.conversation_rules.specs.Protocols.{is_mcp, may_leave_null}
 use Rattle.conversation_rules.specs.Speakers.{Speaker, Pair, found, one_more}
@@ -43,7 +43,7 @@ use Rattle.our_side.proofs.Formed.{IsFormed, AreFormed, IsFormedReading}
 use Rattle.our_side.proofs.Ids.{same_itself, same_plain, named_plain, named_not_null, plain_named, only_null, same_as_other, same_list}
 use Rattle.our_side.proofs.Matched.{array_none}
 use Rattle.our_side.proofs.Kept.{Mild, mild_none, Enough, Leaves, Asks, same_left, more_most, one_more_is}
-use Rattle.our_side.proofs.Open.{IsOfIds, open_on, open_in, AreOrderly, unreadable_more, unreadable_open, Ends, front_in, new_ends, new_front, new_length, map_length, more_length, ends_cancelled, front_cancelled, ends_more, front_more, closed_orderly, closed_open, closed_shut, nothing_alone, nothing_together, open_ends, ends_orderly, LastNew, LastOne, LastBatch, first_one, more_batch, new_cancelled, batch_cancelled, new_orderly, one_orderly, batch_orderly, new_open, one_open, batch_open, fitting, takes, none_oldest, alone_fits, wholes, any_whole, whole_any, open_batch, TakesWhole, takes_whole, together_wholes}
+use Rattle.our_side.proofs.Open.{IsOfIds, open_on, open_in, AreOrderly, unreadable_more, unreadable_open, Ends, front_in, new_ends, new_front, new_length, map_length, more_length, ends_cancelled, front_cancelled, ends_more, front_more, closed_orderly, closed_open, closed_shut, nothing_alone, nothing_together, open_ends, ends_orderly, LastNew, LastOne, LastBatch, first_one, more_batch, new_cancelled, batch_cancelled, new_orderly, one_orderly, batch_orderly, new_open, one_open, batch_open, fitting, takes, none_oldest, alone_fits, wholes, any_whole, whole_any, open_batch, TakesWhole, takes_whole, none_whole, together_wholes}
 use Rattle.our_side.proofs.UnderNull.{IsAnswered, target, entry_answered, null_answered}
 use Rattle.our_side.proofs.Walking.{Each, May, Hosts, Faulty, Answering, EntriesMay, ReadingMay, single_each, answers_each}
 
@@ -407,20 +407,28 @@ module _ (protocol : Protocol) (sight : Sight) (message : Message) (reply : Repl
   second_true true b is = is
   second_true false b is = cc
 
-  abbrev target_by : Option Target → Option Target → Option Target
-  target_by request expected = or_else (or_else request (or_else expected (oldest false (may_have id) owed))) (named_in true id owed)
+  abbrev target_by : Option Target → Option Target → Option Target → Option Target
+  target_by due request expected = or_else (or_else due (or_else request (or_else expected (oldest false (may_have id) owed)))) (named_in true id owed)
 
-  named_by : (n : ℕ) → fitting (is_request_for id) owed ≡ n → AreOrderly owed → 1 ≤ fitting (is_expected id) owed → IsAnswered protocol sight message reply owed id
-  named_by zero none orderly some =
+  -- where none must be answered with it
+  left_by : (n : ℕ) → fitting (is_request_for id) owed ≡ n → oldest false (is_due_for id) owed ≡ None → AreOrderly owed → 1 ≤ fitting (is_expected id) owed → IsAnswered protocol sight message reply owed id
+  left_by zero none no_due orderly some =
       let it = takes (is_expected id) owed orderly some in
-      entry_answered protocol sight message reply owed id (is_expected id) it (target_named ∙ (λ i. target_by (none_oldest (is_request_for id) owed none i) (it.is i))) (expected_few it.it.expected it.fits_it it.plain)
-  named_by (suc n) many orderly some =
+      entry_answered protocol sight message reply owed id (is_expected id) it (target_named ∙ (λ i. target_by (no_due i) (none_oldest (is_request_for id) owed none i) (it.is i))) (expected_few it.it.expected it.fits_it it.plain)
+  left_by (suc n) many no_due orderly some =
       let it = takes (is_request_for id) owed orderly (omega (arith, many)) in
-      entry_answered protocol sight message reply owed id (is_request_for id) it (target_named ∙ ap (λ t. target_by t (oldest false (is_expected id) owed)) it.is)
+      entry_answered protocol sight message reply owed id (is_request_for id) it (target_named ∙ (λ i. target_by (no_due i) (it.is i) (oldest false (is_expected id) owed)))
       (expected_few it.it.expected (second_true it.it.is_request (is_expected id it.it) it.fits_it) it.plain)
 
+  named_by : (n : ℕ) → fitting (is_due_for id) owed ≡ n → AreOrderly owed → 1 ≤ fitting (is_expected id) owed → IsAnswered protocol sight message reply owed id
+  named_by zero none orderly some = left_by (fitting (is_request_for id) owed) refl (none_oldest (is_due_for id) owed none) orderly some
+  named_by (suc n) many orderly some =
+      let it = takes (is_due_for id) owed orderly (omega (arith, many)) in
+      entry_answered protocol sight message reply owed id (is_due_for id) it (target_named ∙ ap (λ t. target_by t (oldest false (is_request_for id) owed) (oldest false (is_expected id) owed)) it.is)
+      (expected_few it.it.expected (second_true it.it.must (is_expected id it.it) it.fits_it) it.plain)
+
   named_answered : AreOrderly owed → 1 ≤ open_in (alone id) owed → IsAnswered protocol sight message reply owed id
-  named_answered orderly some = named_by (fitting (is_request_for id) owed) refl orderly (let same = alone_fits id owed in omega (arith, same, some))
+  named_answered orderly some = named_by (fitting (is_due_for id) owed) refl orderly (let same = alone_fits id owed in omega (arith, same, some))
 
 -- an answer of which it is expected that it is owed
 module _ (protocol : Protocol) (sight : Sight) (message : Message) (reply : Reply) (owed : List Due) (id : WrittenId) (plain : IsPlain id) (well : reply.is_well ≡ true) (may : is_null id ≡ true → reply.may_refuse ≡ true) (orderly : AreOrderly owed)
@@ -489,11 +497,44 @@ read_back (id ∷ ids) = ap (λ rest. id ∷ rest) (read_back ids)
 
 module _ (protocol : Protocol) (sight : Sight) (message : Message) (replies : List Reply) (given : List (Option WrittenId)) (owed : List Due) (id : WrittenId) (more : List WrittenId) (plain : ArePlain (id ∷ more))
     (read : ids_read given ≡ id ∷ more) (orderly : AreOrderly owed) (some : 1 ≤ wholes (is_just (id ∷ more)) owed) where
-  it : TakesWhole (is_just (id ∷ more)) owed
-  it = takes_whole (is_just (id ∷ more)) owed orderly some
+  first_true : (a b : Bool) → (a && b) ≡ true → (a ≡ true) × (b ≡ true)
+  first_true true b is = (refl, is)
+  first_true false b is = cc
+
+  -- the batch that it takes, by one of two tests
+  record Taken : Type 0 where
+    test : Due → Bool
+    it : TakesWhole test owed
+    target : array_target given owed ≡ Some it.content
+    just : is_just (id ∷ more) it.it ≡ true
+
+  target_by_places : (due just : Option ℕ) → position (is_just_due (id ∷ more)) owed ≡ due → position (is_just (id ∷ more)) owed ≡ just
+      → array_target given owed ≡ option_map_or Some due (option_map_or Some just (position (can_be_answered (id ∷ more) (count_by is_none given)) owed))
+  target_by_places due just due_is just_is =
+      ap (λ these. batch_target these (count_by is_none given) owed) read
+      ∙ (λ i. option_map_or Some (due_is i) (option_map_or Some (just_is i) (position (can_be_answered (id ∷ more) (count_by is_none given)) owed)))
+
+  taken_by_count : (n : ℕ) → wholes (is_just_due (id ∷ more)) owed ≡ n → Taken
+  taken_by_count zero none =
+      let it = takes_whole (is_just (id ∷ more)) owed orderly some in
+      record { test = is_just (id ∷ more); it = it; target = target_by_places None (Some it.content) (none_whole (is_just_due (id ∷ more)) owed none) it.is; just = it.fits_it }
+  taken_by_count (suc n) many =
+      let it = takes_whole (is_just_due (id ∷ more)) owed orderly (omega (arith, many)) in
+      record {
+        test = is_just_due (id ∷ more);
+        it = it;
+        target = target_by_places (Some it.content) (position (is_just (id ∷ more)) owed) it.is refl;
+        just = (first_true (list_any (λ owed. owed.must) it.it.entries) (is_just (id ∷ more) it.it) it.fits_it).1;
+      }
+
+  taken : Taken
+  taken = taken_by_count (wholes (is_just_due (id ∷ more)) owed) refl
+
+  it : TakesWhole taken.test owed
+  it = taken.it
 
   batch_is : array_target given owed ≡ Some it.content
-  batch_is = ap (λ these. batch_target these (count_by is_none given) owed) read ∙ ap (λ o. option_map_or Some o (position (can_be_answered (id ∷ more) (count_by is_none given)) owed)) it.is
+  batch_is = taken.target
 
   found_is : found_batch given owed ≡ Some (array_fits given it.it)
   found_is = ap (λ t. option_map (array_fits given) (option_and_then (slice_get owed) t)) batch_is ∙ ap (option_map (array_fits given)) it.there
@@ -504,12 +545,8 @@ module _ (protocol : Protocol) (sight : Sight) (message : Message) (replies : Li
   left_is : behind_answers protocol sight message replies given owed ≡ remove owed it.content
   left_is = ap (behind_answers_of protocol sight message replies given (batch_rest given owed)) found_is ∙ ap (λ t. settled_batch t owed) batch_is
 
-  first_true : (a b : Bool) → (a && b) ≡ true → (a ≡ true) × (b ≡ true)
-  first_true true b is = (refl, is)
-  first_true false b is = cc
-
   parts : (it.it.is_batch ≡ true) × (same_ids (id ∷ more) (expected_ids it.it) ≡ true)
-  parts = first_true it.it.is_batch (same_ids (id ∷ more) (expected_ids it.it)) it.fits_it
+  parts = first_true it.it.is_batch (same_ids (id ∷ more) (expected_ids it.it)) taken.just
 
   readable : it.it.is_unreadable ≡ false
   readable = from it.it.is_unreadable refl

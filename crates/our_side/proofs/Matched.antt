@@ -12,7 +12,7 @@ use Rattle.conversation_rules.specs.Amounts.{is_null}
 use Rattle.conversation_rules.specs.Answers.{fit_findings, has_code, single_findings_of, rest_of, is_unsure, target_of, single_findings, cancelled_code_level, or_note, array_findings, taken_findings, answers_findings_of, batch_rest, answers_findings}
 use Rattle.conversation_rules.specs.Dues as dues
 use Rattle.conversation_rules.specs.Dues.{ids_read, array_target, array_fits, found_batch, fit_of}
-use Rattle.conversation_rules.specs.Matching.{place_in, later, oldest, or_else, is_request_for, named_in, named_target, is_null_request, is_null_other, is_unnamed, expects_null_in, null_in, null_target, parse_error_target, is_just, can_be_answered, batch_target}
+use Rattle.conversation_rules.specs.Matching.{place_in, later, oldest, or_else, is_due_for, is_request_for, left_named_in, named_in, named_target, is_null_request, is_null_other, is_unnamed, expects_null_in, null_in, null_target, parse_error_target, is_just, is_just_due, can_be_answered, left_batch_target, batch_target}
 use Rattle.conversation_rules.specs.Owed.{Owed, Due, is_expected, may_have}
 use Rattle.conversation_rules.specs.Protocols.{is_mcp}
 use Rattle.conversation_rules.specs.Speakers.{found, found_if}
@@ -197,8 +197,9 @@ module _ (protocol : Protocol) (sight : Sight) (message : Message) (reply : Repl
   pub named_none : (id : WrittenId) → is_null id ≡ false → is_owed_singly (is_expected id) owed ≡ true → NoneOf is_of_answers (single_findings protocol sight message reply (Some id) owed)
   named_none id named any =
       let it = oldest_is (is_expected id) owed any in
-      let inner = either_of_two (oldest false (is_request_for id) owed) (or_else (oldest false (is_expected id) owed) (oldest false (may_have id) owed)) owed (there_is (is_request_for id) owed)
+      let left = either_of_two (oldest false (is_request_for id) owed) (or_else (oldest false (is_expected id) owed) (oldest false (may_have id) owed)) owed (there_is (is_request_for id) owed)
       (first_of_two (oldest false (is_expected id) owed) (oldest false (may_have id) owed) owed it) in
+      let inner = either_of_two (oldest false (is_due_for id) owed) (left_named_in false id owed) owed (there_is (is_due_for id) owed) left in
       let all = first_of_two (named_in false id owed) (named_in true id owed) owed inner in
       let target : target_of sight reply (Some id) owed ≡ named_target id owed = ap (λ b. if b then null_target_of else named_target id owed) named in
       single_none protocol sight message reply (rest_of sight reply (Some id) owed) owed (target_of sight reply (Some id) owed) (subst (λ t. IsOldest t owed) (sym target) all)
@@ -295,10 +296,24 @@ array_none protocol sight message (reply ∷ replies) (fit ∷ fits) = none-appe
 
 pub array_answers_none : (protocol : Protocol) (sight : Sight) (message : Message) (replies : List Reply) (ids : List (Option WrittenId)) (owed : List Due) (id : WrittenId) (more : List WrittenId) → ids_read ids ≡ id ∷ more
     → is_owed_in_a_batch (id ∷ more) owed ≡ true → NoneOf is_of_answers (answers_findings protocol sight message true replies ids owed)
-array_answers_none protocol sight message replies ids owed id more read any =
-    let it = placed (is_just (id ∷ more)) owed any in
-    let target : array_target ids owed ≡ Some it.place =
-    ap (λ these. batch_target these (count_by is_none ids) owed) read ∙ ap (λ o. option_map_or Some o (position (can_be_answered (id ∷ more) (count_by is_none ids)) owed)) it.is in
-    let batch : found_batch ids owed ≡ Some (array_fits ids it.it) =
-    ap (λ t. option_map (array_fits ids) (option_and_then (slice_get owed) t)) target ∙ ap (option_map (array_fits ids)) it.there in
-    subst (λ o. NoneOf is_of_answers (answers_findings_of protocol sight message true replies ids (batch_rest ids owed) o)) (sym batch) (array_none protocol sight message replies (array_fits ids it.it))
+array_answers_none protocol sight message replies ids owed id more read any = from (position (is_just_due (id ∷ more)) owed) refl
+  where
+    left : Option ℕ
+    left = left_batch_target (id ∷ more) (count_by is_none ids) owed
+
+    target_is : (o : Option ℕ) → position (is_just_due (id ∷ more)) owed ≡ o → array_target ids owed ≡ option_map_or Some o left
+    target_is o is = ap (λ these. batch_target these (count_by is_none ids) owed) read ∙ ap (λ due. option_map_or Some due left) is
+
+    none_of_it : (content : ℕ) (due : Due) → array_target ids owed ≡ Some content → slice_get owed content ≡ Some due → NoneOf is_of_answers (answers_findings protocol sight message true replies ids owed)
+    none_of_it content due target there =
+        let batch : found_batch ids owed ≡ Some (array_fits ids due) =
+        ap (λ t. option_map (array_fits ids) (option_and_then (slice_get owed) t)) target ∙ ap (option_map (array_fits ids)) there in
+        subst (λ o. NoneOf is_of_answers (answers_findings_of protocol sight message true replies ids (batch_rest ids owed) o)) (sym batch) (array_none protocol sight message replies (array_fits ids due))
+
+    from : (o : Option ℕ) → position (is_just_due (id ∷ more)) owed ≡ o → NoneOf is_of_answers (answers_findings protocol sight message true replies ids owed)
+    from (Some place) is =
+        let it = found_place (is_just_due (id ∷ more)) owed place is in
+        none_of_it place it.it (target_is (Some place) is) it.there
+    from None is =
+        let it = placed (is_just (id ∷ more)) owed any in
+        none_of_it it.place it.it (target_is None is ∙ ap (λ o. option_map_or Some o (position (can_be_answered (id ∷ more) (count_by is_none ids)) owed)) it.is) it.there

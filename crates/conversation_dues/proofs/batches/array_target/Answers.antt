@@ -1,9 +1,9 @@
 use Rattle.std.proofs.Common.{◌∙◌, ap, sym, None, Some, option_map}
 use Rattle.conversation_dues.specs.Answered.{is_answered}
 use Rattle.conversation_dues.specs.Found.{index_of}
-use Rattle.conversation_dues.specs.declared.batches.Answer.TheVariants.{Just, Possible}
+use Rattle.conversation_dues.specs.declared.batches.Answer.TheVariants.{JustDue}
 use Rattle.conversation_dues.proofs.Firsts.{number_is}
-use Rattle.conversation_dues.proofs.Targeted.{none_named, just_target, other_target, if_ok_then}
+use Rattle.conversation_dues.proofs.Targeted.{none_named, due_target, left_target, if_ok_then}
 use Rattle.conversation_open.specs.Open.{open_entries, contents_of}
 use Rattle.conversation_dues.proofs.batches.array_target.Goals as goal
 
@@ -14,14 +14,15 @@ pub returns-in-Some : goal.returns-in-Some
 returns-in-Some c =
     let es = open_entries c.args.contents.now in
     let ids = c.args.ids.now in
-    sym (just_target ids (contents_of es) (index_of c.in-Some.number es) (sym c.has_named.ensures ∙ c.if-not-has_named.false)
-    (number_is (is_answered Just ids) es (Some c.in-Some.number) c.requires.window.ordered (ap (option_map (λ n. (n, 0))) (sym c.in-Some.is) ∙ c.in_ok-number.ensures)))
+    due_target ids (contents_of es) (sym c.has_named.ensures ∙ c.if-not-has_named.false) (index_of c.in-Some.number es)
+    (number_is (is_answered JustDue ids) es (Some c.in-Some.number) c.requires.window.ordered (ap (option_map (λ n. (n, 0))) (sym c.in-Some.is) ∙ c.in_ok-number.ensures))
 
 pub returns-in-None : goal.returns-in-None
 returns-in-None c =
     let es = open_entries c.args.contents.now in
     let ids = c.args.ids.now in
-    if_ok_then c.first_batch-in-None.result
-    (λ number found. sym (other_target ids (contents_of es) (sym c.has_named.ensures ∙ c.if-not-has_named.false) (number_is (is_answered Just ids) es None c.requires.window.ordered (ap (option_map (λ n. (n, 0))) (sym c.in-None.is) ∙ c.in_ok-number.ensures)))
-    ∙ number_is (is_answered Possible ids) es number c.requires.window.ordered found)
-    c.first_batch-in-None.ensures
+    if_ok_then c.left_array_target.result
+    (λ number found. left_target ids (contents_of es) (sym c.has_named.ensures ∙ c.if-not-has_named.false)
+    (number_is (is_answered JustDue ids) es None c.requires.window.ordered (ap (option_map (λ n. (n, 0))) (sym c.in-None.is) ∙ c.in_ok-number.ensures))
+    ∙ found)
+    c.left_array_target.ensures
