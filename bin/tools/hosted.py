@@ -19,7 +19,8 @@ FREESTANDING = f"{TOP}/bindings/node/addon/freestanding"
 COMPILED = ["-std=c11", "-O2", "-fvisibility=hidden", "-Wall", "-Wextra", "-Werror"]
 COMPILED += ["-Wno-unused-parameter", "-ffunction-sections", "-fno-ident", "-nostdinc"]
 PLATFORM = ["-target", "x86_64-unknown-linux-gnu", "-march=x86-64", "-fPIC"]
-LINKED = ["-shared", "-z", "relro", "-z", "now", "-z", "noexecstack", "--build-id=none", "--gc-sections", "--strip-all"]
+LINKED = ["-shared", "-z", "relro", "-z", "now", "-z", "noexecstack", "--build-id=none"]
+LINKED += ["--gc-sections", "--icf=safe", "--strip-all"]
 
 
 class Hosted:

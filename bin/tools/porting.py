@@ -155,7 +155,7 @@ class Mac(Port):
 
     def linked(self, seen: list[str], words: list[str]) -> None:
         all_words = ["-arch", self.processor, "-platform_version", "macos", "11.0", "11.0"]
-        all_words += ["-dead_strip", "-x", "-adhoc_codesign"]
+        all_words += ["-dead_strip", "--icf=safe", "-x", "-adhoc_codesign"]
         all_words += [word for it in seen for word in ("-exported_symbol", f"_{it}")]
         called("ld64.lld", *all_words, *words, self.system())
 
@@ -187,7 +187,7 @@ class Windows(Port):
         return f"{self.room}/{of}.lib"
 
     def linked(self, made: str, words: list[str]) -> None:
-        all_words = ["/dll", "/machine:x64", "/nodefaultlib", "/brepro", "/opt:ref", "/lldmingw", f"/out:{made}"]
+        all_words = ["/dll", "/machine:x64", "/nodefaultlib", "/brepro", "/opt:ref,safeicf", "/lldmingw", f"/out:{made}"]
         called("lld-link", *all_words, *words, self.imports("msvcrt.dll", OF_C_IN_THE_ADDON))
 
     def make_library(self, objects: list[str]) -> None:

@@ -18,7 +18,7 @@ LINKED: dict[str, list[str]] = {
     PROGRAM: [],
     LIBRARY: [
         *("-z", "relro", "-z", "now", "-z", "noexecstack"),
-        *("--build-id=sha1", "--gc-sections", "--strip-all"),
+        *("--build-id=sha1", "--gc-sections", "--icf=safe", "--strip-all"),
     ],
 }
 

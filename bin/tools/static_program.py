@@ -25,7 +25,7 @@ PACKAGE, VERSION, KEPT = "musl-dev", "1.2.3-1", f"{TOP}/out/musl"
 # more; by glibc it is the stack of the first thread, mostly 8 MiB, which is also the most that musl takes from a file.
 STACK = 8 << 20
 LINKED = ["-static", "-pie", "--no-dynamic-linker", "-z", "text", "-z", "relro", "-z", "now", "-z", "noexecstack"]
-LINKED += ["-z", f"stack-size={STACK}", "--build-id=sha1", "--gc-sections", "--strip-all", "--wrap=main"]
+LINKED += ["-z", f"stack-size={STACK}", "--build-id=sha1", "--gc-sections", "--icf=safe", "--strip-all", "--wrap=main"]
 # What begins a program that is loaded anywhere, what stands round it, and the C library.
 BEFORE, BEHIND = ["rcrt1.o", "crti.o"], ["libc.a", "crtn.o"]
 
