@@ -3,6 +3,7 @@ use Rattle.std.specs.Prelude.{ℕ, ◌==◌, ◌&&◌, ◌||◌, not, Bool, fals
 use Rattle.std.specs.List.{list_any}
 use Rattle.std.specs.Option.{option_map_or}
 use Rattle.conversation_ids.specs.Marks.{mark_of, null_mark}
+use Rattle.conversation_ids.specs.declared.entry_marks.EntryMarks.{EntryMarks}
 use Rattle.conversation_reading.specs.declared.entry.WrittenId.{WrittenId}
 use Rattle.conversation_rules.specs.Owed.{Owed, Due}
 
@@ -17,6 +18,13 @@ entry_has mark owed = has_mark mark owed.first || (has_mark mark owed.own || (ha
 -- it is a request whose cancel wasn't seen, by the id that its answer is expected to have
 abbrev pub request_has : ℕ → Owed → Bool
 request_has mark owed = owed.is_request && (not owed.is_cancelled && has_mark mark owed.expected)
+
+-- of marks that were computed
+abbrev pub is_mark : Option ℕ → ℕ → Bool
+is_mark own mark = option_map_or (λ own. own == mark) own false
+
+abbrev pub marks_have : EntryMarks → ℕ → Bool
+marks_have marks mark = is_mark marks.first mark || (is_mark marks.own mark || is_mark marks.null mark)
 
 -- what is asked of a content itself; no id has one of these
 abbrev pub unreadable_mark : ℕ

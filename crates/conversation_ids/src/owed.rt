@@ -3,13 +3,14 @@ ghost use Rattle.std.specs.Option.{option_map_or};
 ghost use Rattle.conversation_reading.specs.declared.entry.WrittenId.TheVariants.{Null};
 ghost use Rattle.conversation_ids.specs.Marks.{mark_of, null_mark};
 ghost use Rattle.conversation_ids.specs.Inner.{expected_as};
-ghost use Rattle.conversation_ids.specs.OwedMarks.{has_mark, entry_has, request_has};
+ghost use Rattle.conversation_ids.specs.OwedMarks.{has_mark, is_mark, marks_have, entry_has, request_has};
 ghost use Rattle.conversation_rules.specs.Amounts.{is_odd, is_null};
 ghost use Rattle.conversation_rules.specs.Dues.{cancelled};
 ghost use Rattle.conversation_rules.specs.Matching.{is_due_for, is_request_for, expects_null, is_null_request, is_null_other, is_unnamed};
 ghost use Rattle.conversation_rules.specs.Owed.{has_id, is_expected, may_have, request_owed, may_be_left, owed_on, empty_array_owed, only_params, expected_without_params};
 ghost use Rattle.conversation_rules.specs.Protocols.{may_leave_null};
 
+use crate::entry_marks::EntryMarks;
 use crate::ids::{is_null, is_odd, same_id};
 use crate::marks::{mark_of, null_mark};
 use conversation_reading::{Entry, Faults, First, Kind, WrittenId};
@@ -294,6 +295,45 @@ impl Owed {
         match self.expects {
             Expects::ItsOwn | Expects::Nothing => self.may_be_null,
             Expects::NullId => true,
+        }
+    }
+
+    /// The marks by which it is found. Each is computed once.
+    pub fn marks(&self) -> EntryMarks
+        ensures entry { (mark : ℕ) → marks_have result mark ≡ entry_has mark self.now }
+        ensures request { (mark : ℕ) → is_mark result.request mark ≡ request_has mark self.now }
+    {
+        let own = self.own_mark();
+        EntryMarks {
+            first: self.first_mark(),
+            own,
+            null: self.marked_null(),
+            request: self.request_mark(own),
+        }
+    }
+
+    fn marked_null(&self) -> Option<u128>
+        ensures { (mark : ℕ) → entry_has mark self.now ≡
+            (has_mark mark self.now.first || (has_mark mark self.now.own || is_mark result mark)) }
+    {
+        if self.is_marked_null() {
+            Some(null_mark())
+        } else {
+            None
+        }
+    }
+
+    fn request_mark(&self, own: Option<u128>) -> Option<u128>
+        requires { own ≡ option_map mark_of self.now.own }
+        ensures { (mark : ℕ) → is_mark result mark ≡ request_has mark self.now }
+    {
+        if !self.is_request || self.is_cancelled {
+            return None;
+        }
+        match self.expects {
+            Expects::ItsOwn => own,
+            Expects::NullId => Some(null_mark()),
+            Expects::Nothing => None,
         }
     }
 

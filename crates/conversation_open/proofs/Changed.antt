@@ -1,11 +1,11 @@
 -- Contents that are changed one behind another, and what is told of those that are left.
-use Rattle.std.proofs.Common.{◌≡◌, ℕ, suc, ◌<◌, ◌≤◌, ◌==◌, not, Bool, true, false, cond, if◌then◌else◌, List, [], ◌∷◌, ◌++◌, Option, Some, None, refl, ap, sym, subst, ◌∙◌, arith, nat_lt, nat_le, map, filter, eq-eqb, option_map}
+use Rattle.std.proofs.Common.{◌≡◌, ℕ, ◌<◌, ◌≤◌, ◌==◌, not, Bool, true, false, cond, if◌then◌else◌, List, [], ◌∷◌, ◌++◌, Option, Some, None, refl, ap, sym, ◌∙◌, arith, nat_lt, nat_le, map, eq-eqb, option_map}
 use Rattle.std.specs.List.{find}
 use Rattle.std.specs.Prelude.{is_some}
 use Rattle.std.specs.Option.{option_map_or}
 use Rattle.std.proofs.lemmas.Bool.{eqb-true, eqb-false, ltb-true, ltb-false, le-ltb, lt-ltb, leb-true, leb-false, false_from_ne_true}
 use Rattle.number_windows.specs.Numbered.{at, without, changed_at, next_number, Above, Ascending}
-use Rattle.number_windows.proofs.Numbered.{apart, apart_after, at_above, changed_above}
+use Rattle.number_windows.proofs.Numbered.{apart_after, at_above}
 use Rattle.conversation_open.specs.Open.{contents_of, changed_up_to, behind, unanswered_at}
 use Rattle.conversation_open.proofs.Lasts.{next_there}
 use Rattle.conversation_rules.specs.Dues.{unanswered, unanswered_of}

@@ -1,11 +1,11 @@
 -- The content that came last.
-use Rattle.std.proofs.Common.{◌≡◌, ℕ, suc, ◌<◌, ◌≤◌, ◌==◌, not, Bool, true, false, cond, if◌then◌else◌, List, [], ◌∷◌, ◌++◌, Option, Some, None, refl, ap, sym, subst, ◌∙◌, arith, nat_lt, lt-ltb, map, eq-eqb, option_map}
+use Rattle.std.proofs.Common.{◌≡◌, ℕ, suc, ◌<◌, ◌==◌, not, Bool, true, false, cond, if◌then◌else◌, List, [], ◌∷◌, Option, Some, None, refl, ap, sym, ◌∙◌, arith, nat_lt, lt-ltb, eq-eqb, option_map}
 use Rattle.std.specs.List.{find}
 use Rattle.std.specs.Prelude.{is_some}
 use Rattle.std.specs.Option.{option_map_or}
-use Rattle.std.proofs.lemmas.Bool.{eqb-true, eqb-false, ltb-true, ne_eqb, false_from_ne_true}
+use Rattle.std.proofs.lemmas.Bool.{eqb-true, ltb-true, false_from_ne_true}
 use Rattle.number_windows.specs.Numbered.{at, without, changed_at, next_number, first_number, Above, Below, Ascending}
-use Rattle.number_windows.proofs.Numbered.{apart_after, without_above, changed_above}
+use Rattle.number_windows.proofs.Numbered.{apart_after}
 use Rattle.conversation_open.specs.Open.{contents_of, last_number, is_open_at, and_owed}
 use Rattle.conversation_rules.specs.Dues.{owed_more, closed, is_open}
 use Rattle.conversation_rules.specs.Owed.{Owed, Due}
@@ -56,6 +56,16 @@ none_last (e ∷ f ∷ es) is = absurd (let gone : f ∷ es ≡ [] = none_last (
 other_than_first : (n : ℕ) (e : ℕ × Due) (es : List (ℕ × Due)) → Above e.0 es → Some n ≡ last_number es → (n == e.0) ≡ false
 other_than_first n e es above is = apart_after n e.0 (last_above e.0 n es above is)
 
+-- it is there
+pub last_at : (n : ℕ) (es : List (ℕ × Due)) → Some n ≡ last_number es → is_some (at n es) ≡ true
+last_at n [] is = cc
+last_at n (e ∷ []) is = let same : n ≡ e.0 = cc in ap (λ b. is_some (cond b (Some e.1) None)) (eq-eqb n e.0 same)
+last_at n (e ∷ f ∷ es) is = from (n == e.0) (last_at n (f ∷ es) is)
+  where
+    from : (b : Bool) → is_some (at n (f ∷ es)) ≡ true → is_some (cond b (Some e.1) (at n (f ∷ es))) ≡ true
+    from true there = refl
+    from false there = there
+
 -- ---- what changes of it
 
 pub owed_last : (owed : Owed) (n : ℕ) (es : List (ℕ × Due)) → Ascending es → Some n ≡ last_number es → contents_of (changed_at n (and_owed owed) es) ≡ owed_more owed (contents_of es)
@@ -88,7 +98,7 @@ close_done n (e ∷ f ∷ es) order is test =
 
 -- ---- looked for
 
-from_some : {X : Type 0} (o : Option X) → is_some o ≡ true → (P : Type 0) → ((x : X) → o ≡ Some x → P) → P
+pub from_some : {X : Type 0} (o : Option X) → is_some o ≡ true → (P : Type 0) → ((x : X) → o ≡ Some x → P) → P
 from_some None is P f = cc
 from_some (Some x) is P f = f x refl
 

@@ -1,5 +1,8 @@
 pub mod Changed
+pub mod Entries
 pub mod Indexed
 pub mod Lasts
+pub mod Noting
 pub mod Pairs
+pub mod Standing
 pub mod StandIns

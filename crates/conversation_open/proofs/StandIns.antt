@@ -1,5 +1,5 @@
 -- An entry that is put back, changed, in the place of its stand-in.
-use Rattle.std.proofs.Common.{◌≡◌, ℕ, ◌==◌, Bool, true, false, cond, List, [], ◌∷◌, Option, Some, None, Result, Ok, Err, OnOk, OnErr, refl, sym, ap, subst, ◌∙◌}
+use Rattle.std.proofs.Common.{◌≡◌, ℕ, ◌==◌, Bool, true, false, cond, List, [], ◌∷◌, Some, None, Result, Ok, Err, OnOk, OnErr, refl, sym, ap, subst, ◌∙◌}
 use Rattle.std.specs.Ordering.{nat_cmp}
 use Rattle.std.specs.Map.{set_value}
 use Rattle.std.specs.BTreeMap.{is_at}
@@ -47,6 +47,10 @@ if_ok (Err e) f p = tt
 pub if_err : {X E P Q : Type 0} (r : Result X E) → (P → Q) → OnErr r P → OnErr r Q
 if_err (Ok x) f p = tt
 if_err (Err e) f p = f p
+
+pub on_err : {X E P : Type 0} (r : Result X E) → P → OnErr r P
+on_err (Ok x) p = tt
+on_err (Err e) p = p
 
 -- what holds of the entries before and behind, where one of them stands
 pub either_entries : {X E : Type 0} {Y : Type 0} (r : Result X E) (P : List Y → Type 0) (was now then : List Y) → OnOk r (now ≡ then) → OnErr r (now ≡ was) → P then → P was → P now

@@ -1,5 +1,5 @@
 -- Numbers by marks.
-use Rattle.std.specs.Prelude.{ℕ, ◌≡◌, ◌==◌, ◌||◌, nat_le, Bool, true, false, Option, Some, None, min}
+use Rattle.std.specs.Prelude.{ℕ, ◌≡◌, ◌==◌, ◌&&◌, ◌||◌, not, Bool, true, false, Option, Some, None, min}
 use Rattle.std.specs.Ordering.{nat_cmp, ordering_then}
 use Rattle.std.specs.declared.cmp.Ordering.{Ordering}
 use Rattle.std.specs.BTreeSet as sorted
@@ -27,6 +27,14 @@ IsSameBut number now was = (mark n : ℕ) → (number == n) ≡ false → has_nu
 abbrev pub StandsUnder : (ℕ → Bool) → ℕ → NumbersByMark → Type 0
 StandsUnder is_of number index = (mark : ℕ) → is_of mark ≡ true → has_number index mark number ≡ true
 
+-- but for this number under marks of a kind nothing has changed
+abbrev pub IsSameButUnder : (ℕ → Bool) → ℕ → NumbersByMark → NumbersByMark → Type 0
+IsSameButUnder is_of number now was = (mark n : ℕ) → ((number == n) && is_of mark) ≡ false → has_number now mark n ≡ has_number was mark n
+
+-- a number is gone from the marks of a kind, and nothing else has changed
+abbrev pub IsWithout : (ℕ → Bool) → ℕ → NumbersByMark → NumbersByMark → Type 0
+IsWithout is_of number now was = (mark n : ℕ) → has_number now mark n ≡ (has_number was mark n && not ((number == n) && is_of mark))
+
 -- ---- an index
 
 -- whether this number stands there, among such contents
@@ -45,16 +53,20 @@ pub record KeepsAll (now was : Index) : Type 0 where
   pub batches : Keeps now.batches was.batches
   pub uncancelled : Keeps now.uncancelled was.uncancelled
 
-pub record IsSameAllBut (number : ℕ) (now was : Index) : Type 0 where
-  pub singles : IsSameBut number now.singles was.singles
-  pub batches : IsSameBut number now.batches was.batches
-  pub uncancelled : IsSameBut number now.uncancelled was.uncancelled
+-- a number stands under each mark of a content's kinds, among batches or not
+pub record IsNotedAs (is_batch : Bool) (is_of request : ℕ → Bool) (number : ℕ) (index : Index) : Type 0 where
+  pub singles : StandsUnder (λ mark. not is_batch && is_of mark) number index.singles
+  pub batches : StandsUnder (λ mark. is_batch && is_of mark) number index.batches
+  pub uncancelled : StandsUnder request number index.uncancelled
 
--- a number stands under each mark of a kind, among batches or not
-abbrev pub IsNotedAs : Bool → (ℕ → Bool) → ℕ → Index → Type 0
-IsNotedAs is_batch is_of number index = (is_batch ≡ false → StandsUnder is_of number index.singles) × (is_batch ≡ true → StandsUnder is_of number index.batches)
+-- but for these nothing has changed
+pub record IsSameAllBut (is_batch : Bool) (is_of request : ℕ → Bool) (number : ℕ) (now was : Index) : Type 0 where
+  pub singles : IsSameButUnder (λ mark. not is_batch && is_of mark) number now.singles was.singles
+  pub batches : IsSameButUnder (λ mark. is_batch && is_of mark) number now.batches was.batches
+  pub uncancelled : IsSameButUnder request number now.uncancelled was.uncancelled
 
--- and as it was
-abbrev pub IsLeftAs : Bool → ℕ → ℕ → Index → Index → Type 0
-IsLeftAs is_batch mark number now was =
-    (is_batch ≡ false → has_number now.singles mark number ≡ has_number was.singles mark number) × (is_batch ≡ true → has_number now.batches mark number ≡ has_number was.batches mark number)
+-- these are gone, and nothing else has changed
+pub record IsAllWithout (is_batch : Bool) (is_of request : ℕ → Bool) (number : ℕ) (now was : Index) : Type 0 where
+  pub singles : IsWithout (λ mark. not is_batch && is_of mark) number now.singles was.singles
+  pub batches : IsWithout (λ mark. is_batch && is_of mark) number now.batches was.batches
+  pub uncancelled : IsWithout request number now.uncancelled was.uncancelled

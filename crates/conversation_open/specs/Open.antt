@@ -1,16 +1,17 @@
 -- Contents on which something is owed, by numbers that ascend, and their index.
-use Rattle.std.specs.Prelude.{ℕ, suc, ◌≡◌, ◌<◌, ◌≤◌, ◌==◌, ◌&&◌, ◌++◌, not, nat_lt, nat_le, length, remove, List, [], ◌∷◌, map, filter, Bool, true, false, Option, Some, None, if◌then◌else◌}
+use Rattle.std.specs.Prelude.{ℕ, suc, ◌≡◌, ◌<◌, ◌==◌, ◌&&◌, ◌++◌, not, nat_lt, nat_le, length, remove, List, [], ◌∷◌, map, filter, Bool, true, false, Option, Some, None, if◌then◌else◌}
 use Rattle.std.specs.Option.{option_map_or}
 use Rattle.conversation_open.specs.Marked.{has_number}
 use Rattle.conversation_open.specs.declared.among.Among.{Among}
 use Rattle.conversation_open.specs.declared.among.Among.TheVariants.{Singles, Batches, All}
 use Rattle.conversation_open.specs.declared.index.Index.{Index}
+use Rattle.conversation_open.specs.declared.numbers_by_mark.NumbersByMark.{NumbersByMark}
 use Rattle.conversation_open.specs.declared.open_contents.OpenContents.{OpenContents}
 use Rattle.conversation_ids.specs.OwedMarks.{due_has, uncancelled_has}
 use Rattle.conversation_rules.specs.Dues.{is_open, unanswered_of}
 use Rattle.conversation_rules.specs.Owed.{Owed, Due}
 use Rattle.conversation_rules.specs.declared.found.Unanswered.{Unanswered}
-use Rattle.number_windows.specs.Numbered.{at, without, changed_at, Above, Below, Ascending}
+use Rattle.number_windows.specs.Numbered.{at, without, changed_at, Above, Below}
 use Rattle.number_windows.specs.Windows.{window_entries, IsWindow}
 
 abbrev pub open_entries : OpenContents → List (ℕ × Due)
@@ -20,21 +21,21 @@ open_entries contents = window_entries contents.dues
 abbrev pub contents_of : List (ℕ × Due) → List Due
 contents_of entries = map (λ entry. entry.1) entries
 
--- a content stands in the index by its marks
-pub record IsFound (index : Index) (number : ℕ) (due : Due) : Type 0 where
-  pub single : due.is_batch ≡ false → (mark : ℕ) → due_has mark due ≡ true → has_number index.singles mark number ≡ true
-  pub batch : due.is_batch ≡ true → (mark : ℕ) → due_has mark due ≡ true → has_number index.batches mark number ≡ true
-  pub uncancelled : (mark : ℕ) → uncancelled_has mark due ≡ true → has_number index.uncancelled mark number ≡ true
-
--- each does
-abbrev pub IsIndexed : Index → List (ℕ × Due) → Type 0
-IsIndexed index entries = (number : ℕ) (due : Due) → at number entries ≡ Some due → IsFound index number due
-
 -- it is one of these, and has the mark
 abbrev pub among_has : Among → ℕ → Due → Bool
 among_has Singles mark due = not due.is_batch && due_has mark due
 among_has Batches mark due = due.is_batch && due_has mark due
 among_has All mark due = due_has mark due
+
+-- under each mark just the contents stand that have it
+abbrev pub StandAs : (ℕ → Due → Bool) → NumbersByMark → List (ℕ × Due) → Type 0
+StandAs has marks entries = (mark number : ℕ) → has_number marks mark number ≡ option_map_or (has mark) (at number entries) false
+
+-- the index has each content under its marks, and nothing else
+pub record IsIndexed (index : Index) (entries : List (ℕ × Due)) : Type 0 where
+  pub singles : StandAs (among_has Singles) index.singles entries
+  pub batches : StandAs (among_has Batches) index.batches entries
+  pub uncancelled : StandAs uncancelled_has index.uncancelled entries
 
 -- numbers begin with 1 and ascend, and none is above the last that was given
 pub record IsOpen (contents : OpenContents) : Type 0 where

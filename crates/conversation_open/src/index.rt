@@ -2,14 +2,14 @@
 //! where the others are asked for; and so do those with a request whose cancel wasn't seen, since each cancel looks for
 //! these.
 
-ghost use Rattle.std.specs.Prelude.{◌≡◌, ◌<◌, ℕ, true, false, OnOk, MatchOption};
-ghost use Rattle.conversation_ids.specs.OwedMarks.{content_has, entry_has, due_has, request_has, uncancelled_has};
-ghost use Rattle.conversation_open.specs.Marked.{has_among, has_number, earlier_of, KeepsAll, IsLeftAs, IsNotedAs, IsSameAllBut, StandsUnder};
+ghost use Rattle.std.specs.Prelude.{◌≡◌, ◌<◌, ◌&&◌, ℕ, not, false, OnOk, MatchOption};
+ghost use Rattle.conversation_ids.specs.OwedMarks.{content_has, due_has, is_mark, marks_have, uncancelled_has};
+ghost use Rattle.conversation_open.specs.Marked.{has_among, has_number, earlier_of, KeepsAll, IsAllWithout, IsNotedAs, IsSameAllBut};
 
 use crate::among::Among;
 use crate::marking;
 use crate::numbers_by_mark::NumbersByMark;
-use conversation_ids::{Due, Owed};
+use conversation_ids::{Due, EntryMarks};
 use std::alloc::{AllocError, Global};
 
 #[derive(Drop)]
@@ -21,7 +21,11 @@ pub(crate) struct Index {
 
 impl Index {
     /// Takes no memory.
-    pub(crate) fn new(alloc: Global) -> Index {
+    pub(crate) fn new(alloc: Global) -> Index
+        ensures singles { (mark number : ℕ) → has_number result.singles mark number ≡ false }
+        ensures batches { (mark number : ℕ) → has_number result.batches mark number ≡ false }
+        ensures uncancelled { (mark number : ℕ) → has_number result.uncancelled mark number ≡ false }
+    {
         Index {
             singles: NumbersByMark::new(alloc),
             batches: NumbersByMark::new(alloc),
@@ -56,10 +60,11 @@ impl Index {
         self.uncancelled.next(mark, after)
     }
 
-    /// Notes a content, whatever its entries are.
+    /// Notes a content, whatever its entries are. On an error it may stand under some of its marks.
     pub(crate) fn note_content(&mut self, due: &Due, number: u64) -> Result<(), AllocError>
-        ensures noted { OnOk result (IsNotedAs due.now.is_batch (λ mark. content_has mark due.now) number self.new) }
+        ensures noted { OnOk result (IsNotedAs due.now.is_batch (λ mark. content_has mark due.now) (λ mark. false) number self.new) }
         ensures kept { KeepsAll self.new self.old }
+        ensures others { IsSameAllBut due.now.is_batch (λ mark. content_has mark due.now) (λ mark. false) number self.new self.old }
     {
         if due.is_batch() {
             marking::note_content(&mut self.batches, due, number)
@@ -68,60 +73,46 @@ impl Index {
         }
     }
 
-    /// Notes an entry of a content.
+    /// Notes an entry of a content. On an error that may stand under some of these marks.
     pub(crate) fn note_entry(
         &mut self,
         is_batch: bool,
-        owed: &Owed,
+        entry: &EntryMarks,
         number: u64,
     ) -> Result<(), AllocError>
-        ensures noted { OnOk result (IsNotedAs is_batch (λ mark. entry_has mark owed.now) number self.new) }
-        ensures request { OnOk result (StandsUnder (λ mark. request_has mark owed.now) number self.new.uncancelled) }
+        ensures noted { OnOk result (IsNotedAs is_batch (marks_have entry.now) (is_mark entry.now.request) number self.new) }
         ensures kept { KeepsAll self.new self.old }
+        ensures others { IsSameAllBut is_batch (marks_have entry.now) (is_mark entry.now.request) number self.new self.old }
     {
-        marking::note_request(&mut self.uncancelled, owed, number)?;
+        marking::note_some(entry.request, &mut self.uncancelled, number)?;
         if is_batch {
-            marking::note_entry(&mut self.batches, owed, number)
+            marking::note_entry(&mut self.batches, entry, number)
         } else {
-            marking::note_entry(&mut self.singles, owed, number)
+            marking::note_entry(&mut self.singles, entry, number)
         }
     }
 
-    /// Forgets an entry that was taken off a content, as far as what is left of that isn't found by the same marks.
-    pub(crate) fn forget_entry(&mut self, owed: &Owed, due: &Due, number: u64)
-        ensures others { IsSameAllBut number self.new self.old }
-        ensures left { (mark : ℕ) → due_has mark due.now ≡ true → IsLeftAs due.now.is_batch mark number self.new self.old }
-        ensures request { (mark : ℕ) → uncancelled_has mark due.now ≡ true →
-            has_number self.new.uncancelled mark number ≡ has_number self.old.uncancelled mark number }
+    /// Forgets a content under the marks of an entry that it has no longer, as far as it isn't found by them still.
+    pub(crate) fn forget_entry(&mut self, entry: &EntryMarks, due: &Due, number: u64)
+        ensures { IsAllWithout due.now.is_batch (λ mark. marks_have entry.now mark && not (due_has mark due.now))
+            (λ mark. is_mark entry.now.request mark && not (uncancelled_has mark due.now)) number self.new self.old }
     {
-        marking::forget_request(&mut self.uncancelled, owed, due, number);
+        marking::forget_unless_uncancelled(&mut self.uncancelled, entry.request, due, number);
         if due.is_batch() {
-            marking::forget_entry(&mut self.batches, owed, due, number);
+            marking::forget_entry(&mut self.batches, entry, due, number);
         } else {
-            marking::forget_entry(&mut self.singles, owed, due, number);
+            marking::forget_entry(&mut self.singles, entry, due, number);
         }
-    }
-
-    /// A cancel of this mark reached a content.
-    pub(crate) fn forget_cancelled(&mut self, mark: u128, due: &Due, number: u64)
-        ensures others { IsSameAllBut number self.new self.old }
-        ensures singles { self.new.singles ≡ self.old.singles }
-        ensures batches { self.new.batches ≡ self.old.batches }
-        ensures request { (m : ℕ) → uncancelled_has m due.now ≡ true →
-            has_number self.new.uncancelled m number ≡ has_number self.old.uncancelled m number }
-    {
-        marking::forget_unless_uncancelled(&mut self.uncancelled, mark, due, number);
     }
 
     /// Forgets a content.
     pub(crate) fn forget_content(&mut self, due: &Due, number: u64)
-        ensures { IsSameAllBut number self.new self.old }
+        ensures { IsAllWithout due.now.is_batch (λ mark. due_has mark due.now) (λ mark. uncancelled_has mark due.now) number self.new self.old }
     {
-        marking::forget_requests(&mut self.uncancelled, due, number);
         if due.is_batch() {
-            marking::forget_content(&mut self.batches, due, number);
+            marking::forget_content(&mut self.batches, &mut self.uncancelled, due, number);
         } else {
-            marking::forget_content(&mut self.singles, due, number);
+            marking::forget_content(&mut self.singles, &mut self.uncancelled, due, number);
         }
     }
 }

@@ -1,13 +1,59 @@
 //! What is kept of a content in the index.
 
-ghost use Rattle.std.specs.Option.{option_map_or};
-ghost use Rattle.std.specs.Prelude.{◌≡◌, ◌==◌, ℕ, OnOk, OnErr, true, false};
-ghost use Rattle.conversation_open.specs.Marked.{has_number, Keeps, IsSameBut, StandsUnder};
-ghost use Rattle.conversation_ids.specs.OwedMarks.{content_has, entry_has, due_has, request_has, uncancelled_has};
+ghost use Rattle.std.specs.List.{list_any};
+ghost use Rattle.std.specs.Prelude.{◌≡◌, ◌==◌, ◌&&◌, ℕ, OnOk, not, true, false};
+ghost use Rattle.conversation_open.specs.Marked.{has_number, IsSameButUnder, IsWithout, Keeps, StandsUnder};
+ghost use Rattle.conversation_ids.specs.OwedMarks.{content_has, entry_has, due_has, is_mark, marks_have, uncancelled_has};
 
 use crate::numbers_by_mark::NumbersByMark;
-use conversation_ids::{Due, Owed, batch_mark, huge_mark, null_mark, unreadable_mark};
+use conversation_ids::{Due, EntryMarks, batch_mark, huge_mark, unreadable_mark};
 use std::alloc::AllocError;
+
+/// Notes a content, whatever its entries are. On an error it may stand under some of these marks.
+pub(crate) fn note_content(
+    marks: &mut NumbersByMark,
+    due: &Due,
+    number: u64,
+) -> Result<(), AllocError>
+    ensures noted { OnOk result (StandsUnder (λ mark. content_has mark due.now) number marks.new) }
+    ensures kept { Keeps marks.new marks.old }
+    ensures others { IsSameButUnder (λ mark. content_has mark due.now) number marks.new marks.old }
+{
+    note_if(due.is_unreadable(), marks, unreadable_mark(), number)?;
+    note_if(due.has_huge(), marks, huge_mark(), number)?;
+    note_if(due.is_batch(), marks, batch_mark(), number)
+}
+
+/// Notes an entry of a content. On an error that may stand under some of these marks.
+pub(crate) fn note_entry(
+    marks: &mut NumbersByMark,
+    entry: &EntryMarks,
+    number: u64,
+) -> Result<(), AllocError>
+    ensures noted { OnOk result (StandsUnder (λ mark. marks_have entry.now mark) number marks.new) }
+    ensures kept { Keeps marks.new marks.old }
+    ensures others { IsSameButUnder (λ mark. marks_have entry.now mark) number marks.new marks.old }
+{
+    note_some(entry.first, marks, number)?;
+    note_some(entry.own, marks, number)?;
+    note_some(entry.null, marks, number)
+}
+
+/// Notes a number under a mark, where there is one.
+pub(crate) fn note_some(
+    mark: Option<u128>,
+    marks: &mut NumbersByMark,
+    number: u64,
+) -> Result<(), AllocError>
+    ensures noted { OnOk result (StandsUnder (λ m. is_mark mark m) number marks.new) }
+    ensures kept { Keeps marks.new marks.old }
+    ensures others { IsSameButUnder (λ m. is_mark mark m) number marks.new marks.old }
+{
+    match mark {
+        Some(mark) => note_if(true, marks, mark, number),
+        None => Ok(()),
+    }
+}
 
 /// Notes a number under a mark, where it has that.
 fn note_if(
@@ -16,158 +62,92 @@ fn note_if(
     mark: u128,
     number: u64,
 ) -> Result<(), AllocError>
-    ensures noted { OnOk result (holds ≡ true → has_number marks.new mark number ≡ true) }
+    ensures noted { OnOk result (StandsUnder (λ m. holds && mark == m) number marks.new) }
     ensures kept { Keeps marks.new marks.old }
+    ensures others { IsSameButUnder (λ m. holds && mark == m) number marks.new marks.old }
 {
     if holds {
-        marks.add(mark, number)?;
+        marks.add(mark, number)
+    } else {
+        Ok(())
     }
-    Ok(())
 }
 
-/// Notes a content, whatever its entries are.
-pub(crate) fn note_content(
-    marks: &mut NumbersByMark,
-    due: &Due,
-    number: u64,
-) -> Result<(), AllocError>
-    ensures noted { OnOk result (StandsUnder (λ mark. content_has mark due.now) number marks.new) }
-    ensures kept { Keeps marks.new marks.old }
+/// Forgets a content under the marks of an entry that it has no longer, as far as it isn't found by them still.
+pub(crate) fn forget_entry(marks: &mut NumbersByMark, entry: &EntryMarks, due: &Due, number: u64)
+    ensures { IsWithout (λ mark. marks_have entry.now mark && not (due_has mark due.now)) number marks.new marks.old }
 {
-    note_if(due.is_unreadable(), marks, unreadable_mark(), number)?;
-    note_if(due.has_huge(), marks, huge_mark(), number)?;
-    note_if(due.is_batch(), marks, batch_mark(), number)
+    forget_unless_left(marks, entry.first, due, number);
+    forget_unless_left(marks, entry.own, due, number);
+    forget_unless_left(marks, entry.null, due, number);
 }
 
-/// Notes an entry of a content.
-pub(crate) fn note_entry(
-    marks: &mut NumbersByMark,
-    owed: &Owed,
-    number: u64,
-) -> Result<(), AllocError>
-    ensures noted { OnOk result (StandsUnder (λ mark. entry_has mark owed.now) number marks.new) }
-    ensures kept { Keeps marks.new marks.old }
+fn forget_unless_left(marks: &mut NumbersByMark, mark: Option<u128>, due: &Due, number: u64)
+    ensures { IsWithout (λ m. is_mark mark m && not (due_has m due.now)) number marks.new marks.old }
 {
-    note_if(owed.is_marked_null(), marks, null_mark(), number)?;
-    note_some(owed.first_mark(), marks, number)?;
-    note_some(owed.own_mark(), marks, number)
-}
-
-/// Notes an entry that is a request whose cancel wasn't seen.
-pub(crate) fn note_request(
-    marks: &mut NumbersByMark,
-    owed: &Owed,
-    number: u64,
-) -> Result<(), AllocError>
-    ensures noted { OnOk result (StandsUnder (λ mark. request_has mark owed.now) number marks.new) }
-    ensures kept { Keeps marks.new marks.old }
-{
-    if !owed.is_request() || owed.is_cancelled() {
-        return Ok(());
-    }
-    note_some(owed.expected_mark(), marks, number)
-}
-
-/// Notes a number under a mark, where there is one.
-fn note_some(mark: Option<u128>, marks: &mut NumbersByMark, number: u64) -> Result<(), AllocError>
-    ensures noted { OnOk result (StandsUnder (λ m. option_map_or (λ mark. mark == m) mark false) number marks.new) }
-    ensures kept { Keeps marks.new marks.old }
-{
-    match mark {
-        Some(mark) => note_if(true, marks, mark, number),
-        None => Ok(()),
+    if let Some(mark) = mark {
+        if !due.has_mark(mark) {
+            marks.remove(mark, number);
+        }
     }
 }
 
-/// Forgets an entry that was taken off a content, as far as what is left of that isn't found by the same marks.
-pub(crate) fn forget_entry(marks: &mut NumbersByMark, owed: &Owed, due: &Due, number: u64)
-    ensures others { IsSameBut number marks.new marks.old }
-    ensures left { (mark : ℕ) → due_has mark due.now ≡ true → has_number marks.new mark number ≡ has_number marks.old mark number }
-{
-    if owed.is_marked_null() {
-        forget_unless_left(marks, null_mark(), due, number);
-    }
-    if let Some(mark) = owed.first_mark() {
-        forget_unless_left(marks, mark, due, number);
-    }
-    if let Some(mark) = owed.own_mark() {
-        forget_unless_left(marks, mark, due, number);
-    }
-}
-
-fn forget_unless_left(marks: &mut NumbersByMark, mark: u128, due: &Due, number: u64)
-    ensures others { IsSameBut number marks.new marks.old }
-    ensures left { (m : ℕ) → due_has m due.now ≡ true → has_number marks.new m number ≡ has_number marks.old m number }
-{
-    if !due.has_mark(mark) {
-        marks.remove(mark, number);
-    }
-}
-
-/// Forgets an entry that was taken off a content, where no request of that mark is left whose cancel wasn't seen.
-pub(crate) fn forget_request(marks: &mut NumbersByMark, owed: &Owed, due: &Due, number: u64)
-    ensures others { IsSameBut number marks.new marks.old }
-    ensures left { (mark : ℕ) → uncancelled_has mark due.now ≡ true → has_number marks.new mark number ≡ has_number marks.old mark number }
-{
-    if !owed.is_request() {
-        return;
-    }
-    if let Some(mark) = owed.expected_mark() {
-        forget_unless_uncancelled(marks, mark, due, number);
-    }
-}
-
+/// The same for the mark of a request, where none with that is left whose cancel wasn't seen.
 pub(crate) fn forget_unless_uncancelled(
     marks: &mut NumbersByMark,
-    mark: u128,
+    mark: Option<u128>,
     due: &Due,
     number: u64,
 )
-    ensures others { IsSameBut number marks.new marks.old }
-    ensures left { (m : ℕ) → uncancelled_has m due.now ≡ true → has_number marks.new m number ≡ has_number marks.old m number }
+    ensures { IsWithout (λ m. is_mark mark m && not (uncancelled_has m due.now)) number marks.new marks.old }
 {
-    if !due.has_uncancelled(mark) {
-        marks.remove(mark, number);
+    if let Some(mark) = mark {
+        if !due.has_uncancelled(mark) {
+            marks.remove(mark, number);
+        }
     }
 }
 
-/// Forgets a content.
-pub(crate) fn forget_content(marks: &mut NumbersByMark, due: &Due, number: u64)
-    ensures { IsSameBut number marks.new marks.old }
+/// Forgets a content, with its requests.
+pub(crate) fn forget_content(
+    marks: &mut NumbersByMark,
+    uncancelled: &mut NumbersByMark,
+    due: &Due,
+    number: u64,
+)
+    ensures marks { IsWithout (λ mark. due_has mark due.now) number marks.new marks.old }
+    ensures requests { IsWithout (λ mark. uncancelled_has mark due.now) number uncancelled.new uncancelled.old }
 {
     forget_if(due.is_unreadable(), marks, unreadable_mark(), number);
     forget_if(due.has_huge(), marks, huge_mark(), number);
     forget_if(due.is_batch(), marks, batch_mark(), number);
     for owed in due.entries() {
-        forget_if(owed.is_marked_null(), marks, null_mark(), number);
-        forget_some(marks, owed.first_mark(), number);
-        forget_some(marks, owed.own_mark(), number);
+        let entry = owed.marks();
+        forget_marks(marks, &entry, number);
+        forget_some(uncancelled, entry.request, number);
     }
 }
 
-/// Forgets the requests of a content.
-pub(crate) fn forget_requests(marks: &mut NumbersByMark, due: &Due, number: u64)
-    ensures { IsSameBut number marks.new marks.old }
+fn forget_marks(marks: &mut NumbersByMark, entry: &EntryMarks, number: u64)
+    ensures { IsWithout (λ mark. marks_have entry.now mark) number marks.new marks.old }
 {
-    for owed in due.entries() {
-        if owed.is_request() {
-            forget_some(marks, owed.expected_mark(), number);
-        }
-    }
+    forget_some(marks, entry.first, number);
+    forget_some(marks, entry.own, number);
+    forget_some(marks, entry.null, number);
 }
 
-fn forget_if(holds: bool, marks: &mut NumbersByMark, mark: u128, number: u64)
-    ensures { IsSameBut number marks.new marks.old }
+fn forget_some(marks: &mut NumbersByMark, mark: Option<u128>, number: u64)
+    ensures { IsWithout (λ m. is_mark mark m) number marks.new marks.old }
 {
-    if holds {
+    if let Some(mark) = mark {
         marks.remove(mark, number);
     }
 }
 
-fn forget_some(marks: &mut NumbersByMark, mark: Option<u128>, number: u64)
-    ensures { IsSameBut number marks.new marks.old }
+fn forget_if(holds: bool, marks: &mut NumbersByMark, mark: u128, number: u64)
+    ensures { IsWithout (λ m. holds && mark == m) number marks.new marks.old }
 {
-    if let Some(mark) = mark {
+    if holds {
         marks.remove(mark, number);
     }
 }

@@ -1,6 +1,8 @@
-ghost use Rattle.std.specs.Prelude.{◌≡◌, ◌<◌, ◌++◌, ◌∷◌, [], map, length, true, false, Some, is_some, OnOk, OnErr, MatchOption, option_and_then, option_copied};
+ghost use Rattle.std.specs.Prelude.{ℕ, ◌≡◌, ◌<◌, ◌++◌, ◌∷◌, [], map, length, true, false, Some, is_some, OnOk, OnErr, MatchOption, option_and_then, option_copied};
 ghost use Rattle.std.specs.Option.{option_map_or};
-ghost use Rattle.conversation_open.specs.Open.{open_entries, contents_of, among_has, AreFixedBetween, AreFixedBehind, IsOpen, IsNoneBetween, IsNoneBehind, last_number, is_open_at, is_empty, settled_at, and_removed, unanswered_at};
+ghost use Rattle.conversation_open.specs.Open.{open_entries, contents_of, among_has, AreFixedBetween, AreFixedBehind, IsOpen, IsNoneBetween, IsNoneBehind, last_number, is_open_at, is_empty, settled_at, and_owed, and_removed, unanswered_at};
+ghost use Rattle.conversation_open.specs.Within.{IsOpenWithin};
+ghost use Rattle.conversation_ids.specs.OwedMarks.{entry_has, is_mark, marks_have, request_has};
 ghost use Rattle.conversation_rules.specs.Dues.{owed_more, closed, cancelled_in, fit_in, unanswered};
 ghost use Rattle.conversation_rules.specs.Owed.{Due as DueValue, new_due, unreadable_due};
 ghost use Rattle.number_windows.specs.Numbered.{at, without, changed_at};
@@ -8,14 +10,14 @@ ghost use Rattle.number_windows.specs.Numbered.{at, without, changed_at};
 use crate::among::Among;
 use crate::in_window::{cancel_at, push_at, take_at};
 use crate::index::Index;
-use conversation_ids::{Due, Owed, mark_of};
+use conversation_ids::{Due, EntryMarks, Owed, mark_of};
 use conversation_reading::WrittenId;
 use conversation_rules::{Fit, Unanswered};
 use number_windows::NumberWindow;
 use std::alloc::{AllocError, Global};
 
 /// The contents on which something is owed, by numbers that ascend as they come. `IsOpen` holds at each call: an index has
-/// each of them under its marks.
+/// each of them under its marks, and nothing else.
 #[derive(Drop)]
 pub struct OpenContents {
     alloc: Global,
@@ -109,7 +111,10 @@ impl OpenContents {
             None => return Err(AllocError),
         };
         self.dues.make_room()?;
-        self.index.note_content(&due, number)?;
+        if let Err(error) = self.index.note_content(&due, number) {
+            self.index.forget_content(&due, number);
+            return Err(error);
+        }
         self.dues.push(number, due);
         self.last = number;
         Ok(())
@@ -126,8 +131,27 @@ impl OpenContents {
             Some(number) => number,
             None => return Ok(()),
         };
+        let entry = owed.marks();
+        if let Err(error) = self.owe_under(number, &entry, owed) {
+            self.forget(number, &entry);
+            return Err(error);
+        }
+        Ok(())
+    }
+
+    /// One more entry of a content, which has these marks. On an error the content may stand under some of them already.
+    fn owe_under(&mut self, number: u64, entry: &EntryMarks, owed: Owed) -> Result<(), AllocError>
+        requires stands { IsOpen self.old }
+        requires there { is_some (at number (open_entries self.old)) ≡ true }
+        requires entry { (mark : ℕ) → marks_have entry.now mark ≡ entry_has mark owed }
+        requires request { (mark : ℕ) → is_mark entry.now.request mark ≡ request_has mark owed }
+        ensures ok { OnOk result (open_entries self.new ≡ changed_at number (and_owed owed) (open_entries self.old)) }
+        ensures stands { OnOk result (IsOpen self.new) }
+        ensures err { OnErr result (open_entries self.new ≡ open_entries self.old) }
+        ensures within { OnErr result (IsOpenWithin entry.now number self.new) }
+    {
         let is_batch = self.is_batch_at(number);
-        self.index.note_entry(is_batch, &owed, number)?;
+        self.index.note_entry(is_batch, entry, number)?;
         push_at(self.alloc, &mut self.dues, number, owed)
     }
 
@@ -178,18 +202,7 @@ impl OpenContents {
         ensures stands { IsOpen self.new }
     {
         cancel_at(self.alloc, &mut self.dues, number, id, settles);
-        self.forget_cancelled(number, mark_of(id));
-    }
-
-    /// Forgets that requests of this mark weren't cancelled, where none is left.
-    fn forget_cancelled(&mut self, number: u64, mark: u128)
-        requires { IsOpen self.old }
-        ensures entries { open_entries self.new ≡ open_entries self.old }
-        ensures stands { IsOpen self.new }
-    {
-        if let Some(due) = self.dues.get(number) {
-            self.index.forget_cancelled(mark, due, number);
-        }
+        self.forget(number, &EntryMarks::of_request(mark_of(id)));
     }
 
     /// Takes an entry off a content, which is forgotten where that was its last, and tells of it.
@@ -316,18 +329,18 @@ impl OpenContents {
         ensures stands { IsOpen self.new }
     {
         if let Some(owed) = take_at(self.alloc, &mut self.dues, number, place) {
-            self.forget(number, &owed);
+            self.forget(number, &owed.marks());
         }
     }
 
-    /// Forgets an entry that was taken off a content.
-    fn forget(&mut self, number: u64, owed: &Owed)
-        requires { IsOpen self.old }
+    /// Forgets a content under marks that it has no longer.
+    fn forget(&mut self, number: u64, entry: &EntryMarks)
+        requires { IsOpenWithin entry.now number self.old }
         ensures entries { open_entries self.new ≡ open_entries self.old }
         ensures stands { IsOpen self.new }
     {
         if let Some(due) = self.dues.get(number) {
-            self.index.forget_entry(owed, due, number);
+            self.index.forget_entry(entry, due, number);
         }
     }
 }

@@ -1,4 +1,4 @@
-use Rattle.std.proofs.Common.{◌≡◌, ◌<◌, ◌∙◌, ap, sym, arith}
+use Rattle.std.proofs.Common.{◌∙◌, ap}
 use Rattle.number_windows.specs.Numbered.{at, changed_at}
 use Rattle.conversation_rules.specs.Dues.{cancelled_in}
 use Rattle.conversation_open.specs.Open.{open_entries, contents_of}

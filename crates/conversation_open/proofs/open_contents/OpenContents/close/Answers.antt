@@ -1,4 +1,4 @@
-use Rattle.std.proofs.Common.{◌≡◌, ◌∙◌, ap, sym}
+use Rattle.std.proofs.Common.{◌∙◌, ap, sym}
 use Rattle.conversation_rules.specs.Dues.{closed}
 use Rattle.conversation_open.specs.Open.{open_entries, contents_of}
 use Rattle.conversation_open.proofs.Lasts.{none_last, close_open, close_done}

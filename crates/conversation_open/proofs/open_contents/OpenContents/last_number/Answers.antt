@@ -1,4 +1,4 @@
-use Rattle.std.proofs.Common.{◌≡◌, ◌<◌, ◌∙◌, sym, true, arith}
+use Rattle.std.proofs.Common.{◌<◌, ◌∙◌, sym, arith}
 use Rattle.conversation_open.specs.Open.{open_entries}
 use Rattle.conversation_open.proofs.Changed.{next_above}
 use Rattle.conversation_open.proofs.Lasts.{last_there, last_stands, first_there, next_there, first_none}

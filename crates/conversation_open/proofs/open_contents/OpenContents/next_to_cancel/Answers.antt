@@ -1,6 +1,5 @@
-use Rattle.std.proofs.Common.{◌≡◌, ◌<◌, ℕ, Bool, false, subst, sym}
+use Rattle.std.proofs.Common.{◌≡◌, ◌<◌, ℕ, false, subst, sym}
 use Rattle.std.specs.Prelude.{MatchOption}
-use Rattle.conversation_ids.specs.Marks.{mark_of}
 use Rattle.conversation_open.specs.Marked.{has_number}
 use Rattle.conversation_open.specs.Open.{among_has, open_entries, AreFixedBehind, AreFixedBetween, IsNoneBehind, IsNoneBetween}
 use Rattle.conversation_open.specs.declared.among.Among.TheVariants.{All}

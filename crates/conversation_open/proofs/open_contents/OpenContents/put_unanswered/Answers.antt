@@ -1,4 +1,4 @@
-use Rattle.std.proofs.Common.{◌≡◌, ◌<◌, ◌++◌, ◌∙◌, ap, sym, arith, append_assoc, append-nil}
+use Rattle.std.proofs.Common.{◌<◌, ◌++◌, ◌∙◌, ap, sym, arith, append_assoc, append-nil}
 use Rattle.conversation_rules.specs.Dues.{unanswered}
 use Rattle.conversation_open.specs.Open.{open_entries, contents_of, behind, unanswered_at}
 use Rattle.conversation_open.proofs.Changed.{behind_none, behind_last, next_above, told_next}
