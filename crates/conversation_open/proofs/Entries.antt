@@ -1,5 +1,5 @@
 -- The marks of a content whose entries change.
-use Rattle.std.proofs.Common.{◌≡◌, ℕ, suc, zero, ◌==◌, ◌&&◌, ◌||◌, Bool, true, false, not, if◌then◌else◌, List, [], ◌∷◌, Option, Some, None, refl, ap, sym, ◌∙◌, map, eq-eqb}
+use Rattle.std.proofs.Common.{◌≡◌, ℕ, suc, zero, ◌==◌, ◌&&◌, ◌||◌, Bool, true, false, not, if◌then◌else◌, List, [], ◌∷◌, ◌++◌, Option, Some, None, refl, ap, sym, ◌∙◌, map, eq-eqb}
 use Rattle.std.proofs.lemmas.List.Folds.{list_any-append}
 use Rattle.std.specs.Option.{option_map_or}
 use Rattle.std.proofs.lemmas.Bool.{false_from_ne_true}
@@ -25,83 +25,56 @@ or_second false b is = is
 
 -- ---- one entry more
 
-last_or : (c l e : Bool) → ((c || l) || e) ≡ (c || (l || (e || false)))
-last_or true l e = refl
-last_or false true e = refl
-last_or false false true = refl
-last_or false false false = refl
+or_no : (a : Bool) → a ≡ (a || false)
+or_no true = refl
+or_no false = refl
+
+or_last : (a b c : Bool) → (a || (b || c)) ≡ ((a || b) || c)
+or_last true b c = refl
+or_last false b c = refl
+
+any_more : {X : Type 0} (p : X → Bool) (xs : List X) (x : X) → (list_any p xs || p x) ≡ list_any p (xs ++ x ∷ [])
+any_more p xs x = ap (λ b. list_any p xs || b) (or_no (p x)) ∙ sym (list_any-append p xs (x ∷ []))
 
 pub owed_marks : (mark : ℕ) (owed : Owed) (due : Due) → (due_has mark due || entry_has mark owed) ≡ due_has mark (and_owed owed due)
 owed_marks mark owed due =
-    last_or (content_has mark due) (list_any (entry_has mark) due.entries) (entry_has mark owed)
-    ∙ ap (λ b. content_has mark due || b) (sym (list_any-append (entry_has mark) due.entries (owed ∷ [])))
+    sym (or_last (content_has mark due) (list_any (entry_has mark) due.entries) (entry_has mark owed)) ∙ ap (λ b. content_has mark due || b) (any_more (entry_has mark) due.entries owed)
 
 pub owed_requests : (mark : ℕ) (owed : Owed) (due : Due) → (uncancelled_has mark due || request_has mark owed) ≡ uncancelled_has mark (and_owed owed due)
-owed_requests mark owed due =
-    last_or false (list_any (request_has mark) due.entries) (request_has mark owed) ∙ sym (list_any-append (request_has mark) due.entries (owed ∷ []))
+owed_requests mark owed due = any_more (request_has mark) due.entries owed
 
 -- none at all
 pub bare_marks : (mark : ℕ) (due : Due) → due.entries ≡ [] → content_has mark due ≡ due_has mark due
 bare_marks mark due none = or_no (content_has mark due) ∙ ap (λ es. content_has mark due || list_any (entry_has mark) es) (sym none)
-  where
-    or_no : (a : Bool) → a ≡ (a || false)
-    or_no true = refl
-    or_no false = refl
 
 pub bare_requests : (mark : ℕ) (due : Due) → due.entries ≡ [] → false ≡ uncancelled_has mark due
 bare_requests mark due none = ap (list_any (request_has mark)) (sym none)
 
 -- ---- one entry less
 
-any_removed : {X : Type 0} (p : X → Bool) (xs : List X) (place : ℕ) → list_any p (remove xs place) ≡ true → list_any p xs ≡ true
-any_removed p [] zero holds = holds
-any_removed p [] (suc place) holds = holds
-any_removed p (x ∷ xs) zero holds = or_second (p x) (list_any p xs) holds
-any_removed p (x ∷ xs) (suc place) holds =
-    either_of (p x) (list_any p (remove xs place)) (list_any p (x ∷ xs) ≡ true) holds
-    (λ here. or_first (p x) (list_any p xs) here)
-    (λ there. or_second (p x) (list_any p xs) (any_removed p xs place there))
+any_removed : {X : Type 0} (p : X → Bool) (xs : List X) (place : ℕ) (x : X) → slice_get xs place ≡ Some x → list_any p xs ≡ (list_any p (remove xs place) || p x)
+any_removed p [] place x there = absurd (let e : None ≡ Some x = there in cc)
+any_removed p (y ∷ ys) zero x there = swapped (p y) (list_any p ys) ∙ ap (λ z. list_any p ys || p z) (let same : y ≡ x = cc in same)
+  where
+    swapped : (a b : Bool) → (a || b) ≡ (b || a)
+    swapped true true = refl
+    swapped true false = refl
+    swapped false true = refl
+    swapped false false = refl
+any_removed p (y ∷ ys) (suc place) x there = ap (λ b. p y || b) (any_removed p ys place x there) ∙ or_last (p y) (list_any p (remove ys place)) (p x)
 
--- what was removed, or what is left
-any_other : {X : Type 0} (p : X → Bool) (xs : List X) (place : ℕ) (x : X) → slice_get xs place ≡ Some x → list_any p xs ≡ true → (list_any p (remove xs place) || p x) ≡ true
-any_other p [] place x there holds = absurd (let e : false ≡ true = holds in cc)
-any_other p (y ∷ ys) zero x there holds =
-    let same : y ≡ x = cc in
-    either_of (p y) (list_any p ys) ((list_any p ys || p x) ≡ true) holds
-    (λ here. or_second (list_any p ys) (p x) (ap p (sym same) ∙ here)) (λ other. or_first (list_any p ys) (p x) other)
-any_other p (y ∷ ys) (suc place) x there holds =
-    either_of (p y) (list_any p ys) (((p y || list_any p (remove ys place)) || p x) ≡ true) holds
-    (λ here. or_first (p y || list_any p (remove ys place)) (p x) (or_first (p y) (list_any p (remove ys place)) here))
-    (λ other. either_of (list_any p (remove ys place)) (p x) (((p y || list_any p (remove ys place)) || p x) ≡ true) (any_other p ys place x there other)
-    (λ left. or_first (p y || list_any p (remove ys place)) (p x) (or_second (p y) (list_any p (remove ys place)) left))
-    (λ gone. or_second (p y || list_any p (remove ys place)) (p x) gone))
+pub removed_marks : (mark place : ℕ) (due : Due) (owed : Owed) → slice_get due.entries place ≡ Some owed → due_has mark due ≡ (due_has mark (and_removed place due) || entry_has mark owed)
+removed_marks mark place due owed there =
+    ap (λ b. content_has mark due || b) (any_removed (entry_has mark) due.entries place owed there) ∙ or_last (content_has mark due) (list_any (entry_has mark) (remove due.entries place)) (entry_has mark owed)
+
+pub removed_requests : (mark place : ℕ) (due : Due) (owed : Owed) → slice_get due.entries place ≡ Some owed → uncancelled_has mark due ≡ (uncancelled_has mark (and_removed place due) || request_has mark owed)
+removed_requests mark place due owed there = any_removed (request_has mark) due.entries place owed there
 
 pub removed_none : {X : Type 0} (xs : List X) (place : ℕ) → slice_get xs place ≡ None → remove xs place ≡ xs
 removed_none [] zero none = refl
 removed_none [] (suc place) none = refl
 removed_none (x ∷ xs) zero none = cc
 removed_none (x ∷ xs) (suc place) none = ap (λ ys. x ∷ ys) (removed_none xs place none)
-
-pub removed_marks : (mark place : ℕ) (due : Due) → due_has mark (and_removed place due) ≡ true → due_has mark due ≡ true
-removed_marks mark place due holds =
-    either_of (content_has mark due) (list_any (entry_has mark) (remove due.entries place)) (due_has mark due ≡ true) holds
-    (λ here. or_first (content_has mark due) (list_any (entry_has mark) due.entries) here)
-    (λ there. or_second (content_has mark due) (list_any (entry_has mark) due.entries) (any_removed (entry_has mark) due.entries place there))
-
-pub lost_marks : (mark place : ℕ) (due : Due) (owed : Owed) → slice_get due.entries place ≡ Some owed → due_has mark due ≡ true → (due_has mark (and_removed place due) || entry_has mark owed) ≡ true
-lost_marks mark place due owed there holds =
-    either_of (content_has mark due) (list_any (entry_has mark) due.entries) ((due_has mark (and_removed place due) || entry_has mark owed) ≡ true) holds
-    (λ here. or_first (due_has mark (and_removed place due)) (entry_has mark owed) (or_first (content_has mark due) (list_any (entry_has mark) (remove due.entries place)) here))
-    (λ other. either_of (list_any (entry_has mark) (remove due.entries place)) (entry_has mark owed) ((due_has mark (and_removed place due) || entry_has mark owed) ≡ true)
-    (any_other (entry_has mark) due.entries place owed there other)
-    (λ left. or_first (due_has mark (and_removed place due)) (entry_has mark owed) (or_second (content_has mark due) (list_any (entry_has mark) (remove due.entries place)) left))
-    (λ gone. or_second (due_has mark (and_removed place due)) (entry_has mark owed) gone))
-
-pub removed_requests : (mark place : ℕ) (due : Due) → uncancelled_has mark (and_removed place due) ≡ true → uncancelled_has mark due ≡ true
-removed_requests mark place due holds = any_removed (request_has mark) due.entries place holds
-
-pub lost_requests : (mark place : ℕ) (due : Due) (owed : Owed) → slice_get due.entries place ≡ Some owed → uncancelled_has mark due ≡ true → (uncancelled_has mark (and_removed place due) || request_has mark owed) ≡ true
-lost_requests mark place due owed there holds = any_other (request_has mark) due.entries place owed there holds
 
 -- ---- a cancel leaves the ids
 

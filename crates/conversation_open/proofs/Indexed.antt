@@ -15,7 +15,7 @@ use Rattle.conversation_open.specs.declared.among.Among.{Among}
 use Rattle.conversation_open.specs.declared.among.Among.TheVariants.{Singles, Batches, All}
 use Rattle.conversation_open.specs.declared.index.Index.{Index}
 use Rattle.conversation_open.proofs.Noting.{either_false}
-use Rattle.conversation_open.proofs.Entries.{owed_marks, owed_requests, bare_marks, bare_requests, removed_none, removed_marks, lost_marks, removed_requests, lost_requests, cancelled_marks, cancelled_requests, lost_cancelled, uncancelled, cancelled_before}
+use Rattle.conversation_open.proofs.Entries.{owed_marks, owed_requests, bare_marks, bare_requests, removed_none, removed_marks, removed_requests, cancelled_marks, cancelled_requests, lost_cancelled, uncancelled, cancelled_before}
 use Rattle.conversation_open.proofs.Standing.{at_changed, stands_come, stands_gone, stands_less, stands_more, stands_left, stands_none, taken_back, within_noted, within_changed}
 use Rattle.conversation_reading.specs.declared.entry.WrittenId.{WrittenId}
 use Rattle.conversation_rules.specs.Dues.{cancelled_in}
@@ -123,14 +123,18 @@ module _ (entry : EntryMarks) (owed : Owed) (has_entry : (mark : ℕ) → marks_
     singles = within_changed (λ d. not d.is_batch) due_has (marks_have entry) number index.singles now was (and_removed place) indexed.singles is (λ d there. (refl, marks d there));
     batches = within_changed (λ d. d.is_batch) due_has (marks_have entry) number index.batches now was (and_removed place) indexed.batches is (λ d there. (refl, marks d there));
     uncancelled = within_changed (λ d. true) uncancelled_has (is_mark entry.request) number index.uncancelled now was (and_removed place) indexed.uncancelled is
-        (λ d there. (refl, λ mark. (removed_requests mark place d, λ holds. ap (λ b. uncancelled_has mark (and_removed place d) || b) (has_request mark) ∙ lost_requests mark place d owed (gone d there) holds)));
+        (λ d there. (refl, λ mark. either (uncancelled_has mark d) (uncancelled_has mark (and_removed place d)) (request_has mark owed) (is_mark entry.request mark) (removed_requests mark place d owed (gone d there)) (has_request mark)));
   }
     where
+      either : (all left gone of_it : Bool) → all ≡ (left || gone) → of_it ≡ gone → (left ≡ true → all ≡ true) × (all ≡ true → (left || of_it) ≡ true)
+      either all true gone of_it is same = (λ holds. is, λ holds. refl)
+      either all false gone of_it is same = (λ holds. absurd (let e : false ≡ true = holds in cc), λ holds. same ∙ sym is ∙ holds)
+
       gone : (d : Due) → at number was ≡ Some d → slice_get d.entries place ≡ Some owed
       gone d there = sym (got ∙ ap (option_and_then (λ x. slice_get x.entries place)) there)
 
       marks : (d : Due) → at number was ≡ Some d → (mark : ℕ) → (due_has mark (and_removed place d) ≡ true → due_has mark d ≡ true) × (due_has mark d ≡ true → (due_has mark (and_removed place d) || marks_have entry mark) ≡ true)
-      marks d there mark = (removed_marks mark place d, λ holds. ap (λ b. due_has mark (and_removed place d) || b) (has_entry mark) ∙ lost_marks mark place d owed (gone d there) holds)
+      marks d there mark = either (due_has mark d) (due_has mark (and_removed place d)) (entry_has mark owed) (marks_have entry mark) (removed_marks mark place d owed (gone d there)) (has_entry mark)
 
 -- none goes
 pub indexed_same : (index : Index) (now was : List (ℕ × Due)) (number place : ℕ) → IsIndexed index was → now ≡ changed_at number (and_removed place) was → None ≡ option_and_then (λ d. slice_get d.entries place) (at number was) → IsIndexed index now

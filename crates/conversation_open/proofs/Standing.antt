@@ -6,6 +6,7 @@ use Rattle.number_windows.specs.Numbered.{at, without, changed_at}
 use Rattle.number_windows.proofs.Numbered.{unchanged}
 use Rattle.number_windows.proofs.Rows.{at_come, at_gone, at_replaced}
 use Rattle.conversation_open.specs.Marked.{has_number, Keeps, IsSameButUnder, IsWithout, StandsUnder}
+use Rattle.conversation_open.proofs.Noting.{and_no}
 use Rattle.conversation_open.specs.Open.{StandAs}
 use Rattle.conversation_open.specs.Within.{StandWithin}
 use Rattle.conversation_open.specs.declared.numbers_by_mark.NumbersByMark.{NumbersByMark}
@@ -59,10 +60,6 @@ here_by true is_of same is none = absurd (let e : true ≡ false = none in cc)
 here_by false is_of true is none = refl
 here_by false is_of false is none = absurd (let e : false ≡ true = is in cc)
 
-or_no : (a : Bool) → (a || false) ≡ a
-or_no true = refl
-or_no false = refl
-
 and_yes : (a : Bool) → (a && true) ≡ a
 and_yes true = refl
 and_yes false = refl
@@ -103,25 +100,26 @@ taken_back has new mid old was number is_of gone stood none within others withou
     hidden : (mark n : ℕ) (b : Bool) → gone mark ≡ false → is_of mark ≡ b → ((number == n) && b) ≡ false
     hidden mark n true isnt is = absurd (let e : true ≡ false = sym (within mark is) ∙ isnt in cc)
     hidden mark n false isnt is = and_no (number == n)
-      where
-        and_no : (a : Bool) → (a && false) ≡ false
-        and_no true = refl
-        and_no false = refl
 
     from : (mark n : ℕ) (same : Bool) → (number == n) ≡ same → (g : Bool) → gone mark ≡ g → (has_number mid mark n && not (same && g)) ≡ option_map_or (has mark) (at n was) false
     from mark n true same true is =
-        no (has_number mid mark n) ∙ sym (ap (λ o. option_map_or (has mark) o false) (ap (λ k. at k was) (sym (eqb-true number n same)) ∙ none))
-      where
-        no : (a : Bool) → (a && false) ≡ false
-        no true = refl
-        no false = refl
+        and_no (has_number mid mark n) ∙ sym (ap (λ o. option_map_or (has mark) o false) (ap (λ k. at k was) (sym (eqb-true number n same)) ∙ none))
     from mark n true same false is =
-        and_yes (has_number mid mark n) ∙ others mark n (ap (λ b. (number == n) && b) refl ∙ hidden mark n (is_of mark) is refl) ∙ stood mark n
+        and_yes (has_number mid mark n) ∙ others mark n (hidden mark n (is_of mark) is refl) ∙ stood mark n
     from mark n false other g is = and_yes (has_number mid mark n) ∙ others mark n (ap (λ b. b && is_of mark) other) ∙ stood mark n
 
 -- ---- one is changed
 
 module _ (is_one : Due → Bool) (has : ℕ → Due → Bool) (is_of : ℕ → Bool) (number : ℕ) where
+  abbrev one_has : ℕ → Due → Bool
+  one_has mark due = is_one due && has mark due
+
+  abbrev stand : ℕ → Option Due → Bool
+  stand mark content = option_map_or (one_has mark) content false
+
+  abbrev may : Bool → ℕ → Option Due → Bool
+  may same mark content = option_map_or (λ due. is_one due && (has mark due || (same && is_of mark))) content false
+
   -- one more entry
   more_of : (old one has_it same of_it : Bool) → same ≡ true → old ≡ (one && has_it) → (old || (same && (one && of_it))) ≡ (one && (has_it || of_it))
   more_of old true true same of_it is so = ap (λ b. b || (same && of_it)) so
@@ -129,14 +127,14 @@ module _ (is_one : Due → Bool) (has : ℕ → Due → Bool) (is_of : ℕ → B
   more_of old false has_it true of_it is so = ap (λ b. b || false) so
   more_of old false has_it false of_it is so = ap (λ b. b || false) so
 
-  pub stands_more : (new old : NumbersByMark) (now was : List (ℕ × Due)) (f : Due → Due) (due : Due) (b : Bool) → StandAs (λ mark d. is_one d && has mark d) old was → now ≡ changed_at number f was → at number was ≡ Some due →
+  pub stands_more : (new old : NumbersByMark) (now was : List (ℕ × Due)) (f : Due → Due) (due : Due) (b : Bool) → StandAs one_has old was → now ≡ changed_at number f was → at number was ≡ Some due →
       b ≡ is_one due → is_one due ≡ is_one (f due) → ((mark : ℕ) → (has mark due || is_of mark) ≡ has mark (f due)) →
-      StandsUnder (λ mark. b && is_of mark) number new → IsSameButUnder (λ mark. b && is_of mark) number new old → StandAs (λ mark d. is_one d && has mark d) new now
+      StandsUnder (λ mark. b && is_of mark) number new → IsSameButUnder (λ mark. b && is_of mark) number new old → StandAs one_has new now
   stands_more new old now was f due b stood is there kind stays more stands others =
       let all = all_noted new old number (λ mark. b && is_of mark) stands others in
-      stands_at (λ mark d. is_one d && has mark d) new old now was number (Some (f due)) stood (at_replaced number f due was now is there)
+      stands_at one_has new old now was number (Some (f due)) stood (at_replaced number f due was now is there)
       (λ mark. all mark number ∙ ap (λ k. has_number old mark number || ((number == number) && (k && is_of mark))) kind
-      ∙ more_of (has_number old mark number) (is_one due) (has mark due) (number == number) (is_of mark) (eq-eqb number number refl) (stood mark number ∙ ap (λ o. option_map_or (λ d. is_one d && has mark d) o false) there)
+      ∙ more_of (has_number old mark number) (is_one due) (has mark due) (number == number) (is_of mark) (eq-eqb number number refl) (stood mark number ∙ ap (stand mark) there)
       ∙ ap (λ k. k && (has mark due || is_of mark)) stays ∙ ap (λ k. is_one (f due) && k) (more mark))
       (λ mark k apart. others mark k (ap (λ same. same && (b && is_of mark)) apart))
 
@@ -147,13 +145,13 @@ module _ (is_one : Due → Bool) (has : ℕ → Due → Bool) (is_of : ℕ → B
   wider true false c is = absurd (let e : false ≡ true = is in cc)
   wider false b c is = is
 
-  exact : (mark : ℕ) (o : Option Due) (same x : Bool) → x ≡ option_map_or (λ d. is_one d && has mark d) o false →
-      (option_map_or (λ d. is_one d && has mark d) o false ≡ true → x ≡ true) × (x ≡ true → option_map_or (λ d. is_one d && (has mark d || (same && is_of mark))) o false ≡ true)
+  exact : (mark : ℕ) (o : Option Due) (same x : Bool) → x ≡ stand mark o →
+      (stand mark o ≡ true → x ≡ true) × (x ≡ true → may same mark o ≡ true)
   exact mark None same x is = (λ holds. is ∙ holds, λ there. sym is ∙ there)
   exact mark (Some d) same x is = (λ holds. is ∙ holds, λ there. wider (is_one d) (has mark d) (same && is_of mark) (sym is ∙ there))
 
   between : (mark : ℕ) (o : Option Due) (x : Bool) →
-      (option_map_or (λ d. is_one d && has mark d) o false ≡ true → x ≡ true) × (x ≡ true → option_map_or (λ d. is_one d && (has mark d || false)) o false ≡ true) → x ≡ option_map_or (λ d. is_one d && has mark d) o false
+      (stand mark o ≡ true → x ≡ true) × (x ≡ true → may false mark o ≡ true) → x ≡ stand mark o
   between mark None true both = sym (both.1 refl)
   between mark None false both = refl
   between mark (Some d) x both = from x (is_one d) (has mark d) both
@@ -177,36 +175,36 @@ module _ (is_one : Due → Bool) (has : ℕ → Due → Bool) (is_of : ℕ → B
 
   -- what it has lost is forgotten
   pub stands_left : (new old : NumbersByMark) (es : List (ℕ × Due)) (due : Due) → StandWithin is_one has is_of number old es → at number es ≡ Some due →
-      IsWithout (λ mark. is_one due && (is_of mark && not (has mark due))) number new old → StandAs (λ mark d. is_one d && has mark d) new es
+      IsWithout (λ mark. is_one due && (is_of mark && not (has mark due))) number new old → StandAs one_has new es
   stands_left new old es due within there gone = λ mark n. gone mark n ∙ from mark n (number == n) refl (within mark n)
     where
       from : (mark n : ℕ) (same : Bool) → (number == n) ≡ same →
-          (option_map_or (λ d. is_one d && has mark d) (at n es) false ≡ true → has_number old mark n ≡ true)
-          × (has_number old mark n ≡ true → option_map_or (λ d. is_one d && (has mark d || ((number == n) && is_of mark))) (at n es) false ≡ true) →
-          (has_number old mark n && not (same && (is_one due && (is_of mark && not (has mark due))))) ≡ option_map_or (λ d. is_one d && has mark d) (at n es) false
+          (stand mark (at n es) ≡ true → has_number old mark n ≡ true)
+          × (has_number old mark n ≡ true → may (number == n) mark (at n es) ≡ true) →
+          (has_number old mark n && not (same && (is_one due && (is_of mark && not (has mark due))))) ≡ stand mark (at n es)
       from mark n true same both =
           let here : at n es ≡ Some due = ap (λ k. at k es) (sym (eqb-true number n same)) ∙ there in
           left (has_number old mark n) (is_one due) (has mark due) (is_of mark)
-          (λ holds. both.0 (ap (λ o. option_map_or (λ d. is_one d && has mark d) o false) here ∙ holds))
-          (λ holds. sym (ap (λ b. is_one due && (has mark due || (b && is_of mark))) same) ∙ sym (ap (λ o. option_map_or (λ d. is_one d && (has mark d || ((number == n) && is_of mark))) o false) here) ∙ both.1 holds)
-          ∙ sym (ap (λ o. option_map_or (λ d. is_one d && has mark d) o false) here)
+          (λ holds. both.0 (ap (stand mark) here ∙ holds))
+          (λ holds. sym (ap (λ b. is_one due && (has mark due || (b && is_of mark))) same) ∙ sym (ap (may (number == n) mark) here) ∙ both.1 holds)
+          ∙ sym (ap (stand mark) here)
       from mark n false other both =
           and_yes (has_number old mark n)
           ∙ between mark (at n es) (has_number old mark n)
-          (both.0, λ holds. sym (ap (λ b. option_map_or (λ d. is_one d && (has mark d || (b && is_of mark))) (at n es) false) other) ∙ both.1 holds)
+          (both.0, λ holds. sym (ap (λ b. may b mark (at n es)) other) ∙ both.1 holds)
 
-  pub stands_none : (marks : NumbersByMark) (es : List (ℕ × Due)) → StandWithin is_one has is_of number marks es → at number es ≡ None → StandAs (λ mark d. is_one d && has mark d) marks es
+  pub stands_none : (marks : NumbersByMark) (es : List (ℕ × Due)) → StandWithin is_one has is_of number marks es → at number es ≡ None → StandAs one_has marks es
   stands_none marks es within none = λ mark n. between mark (at n es) (has_number marks mark n) ((within mark n).0, λ holds. from mark n (number == n) refl ((within mark n).1 holds))
     where
-      from : (mark n : ℕ) (same : Bool) → (number == n) ≡ same → option_map_or (λ d. is_one d && (has mark d || ((number == n) && is_of mark))) (at n es) false ≡ true →
-          option_map_or (λ d. is_one d && (has mark d || false)) (at n es) false ≡ true
+      from : (mark n : ℕ) (same : Bool) → (number == n) ≡ same → may (number == n) mark (at n es) ≡ true →
+          may false mark (at n es) ≡ true
       from mark n true same holds =
           let here : at n es ≡ None = ap (λ k. at k es) (sym (eqb-true number n same)) ∙ none in
-          absurd (let e : false ≡ true = sym (ap (λ o. option_map_or (λ d. is_one d && (has mark d || ((number == n) && is_of mark))) o false) here) ∙ holds in cc)
-      from mark n false other holds = sym (ap (λ b. option_map_or (λ d. is_one d && (has mark d || (b && is_of mark))) (at n es) false) other) ∙ holds
+          absurd (let e : false ≡ true = sym (ap (may (number == n) mark) here) ∙ holds in cc)
+      from mark n false other holds = sym (ap (λ b. may b mark (at n es)) other) ∙ holds
 
   -- noted, if at all
-  pub within_noted : (new old : NumbersByMark) (es : List (ℕ × Due)) (due : Due) (b : Bool) → StandAs (λ mark d. is_one d && has mark d) old es → at number es ≡ Some due → b ≡ is_one due →
+  pub within_noted : (new old : NumbersByMark) (es : List (ℕ × Due)) (due : Due) (b : Bool) → StandAs one_has old es → at number es ≡ Some due → b ≡ is_one due →
       Keeps new old → IsSameButUnder (λ mark. b && is_of mark) number new old → StandWithin is_one has is_of number new es
   within_noted new old es due b stood there kind kept others = λ mark n. (λ holds. kept mark n (stood mark n ∙ holds), λ holds. from mark n (number == n) refl holds)
     where
@@ -216,26 +214,26 @@ module _ (is_one : Due → Bool) (has : ℕ → Due → Bool) (is_of : ℕ → B
       here true false h o is both = both
       here false a h o is both = absurd (let e : false ≡ true = is in cc)
 
-      same_as : (mark n : ℕ) (hidden : ((number == n) && (b && is_of mark)) ≡ false) → has_number new mark n ≡ true → option_map_or (λ d. is_one d && (has mark d || ((number == n) && is_of mark))) (at n es) false ≡ true
+      same_as : (mark n : ℕ) (hidden : ((number == n) && (b && is_of mark)) ≡ false) → has_number new mark n ≡ true → may (number == n) mark (at n es) ≡ true
       same_as mark n hidden = (exact mark (at n es) (number == n) (has_number new mark n) (others mark n hidden ∙ stood mark n)).1
 
-      from : (mark n : ℕ) (same : Bool) → (number == n) ≡ same → has_number new mark n ≡ true → option_map_or (λ d. is_one d && (has mark d || ((number == n) && is_of mark))) (at n es) false ≡ true
+      from : (mark n : ℕ) (same : Bool) → (number == n) ≡ same → has_number new mark n ≡ true → may (number == n) mark (at n es) ≡ true
       from mark n true same holds = by ((number == n) && (b && is_of mark)) refl
         where
-          by : (both : Bool) → ((number == n) && (b && is_of mark)) ≡ both → option_map_or (λ d. is_one d && (has mark d || ((number == n) && is_of mark))) (at n es) false ≡ true
+          by : (both : Bool) → ((number == n) && (b && is_of mark)) ≡ both → may (number == n) mark (at n es) ≡ true
           by true both =
-              ap (λ o. option_map_or (λ d. is_one d && (has mark d || ((number == n) && is_of mark))) o false) (ap (λ k. at k es) (sym (eqb-true number n same)) ∙ there)
+              ap (may (number == n) mark) (ap (λ k. at k es) (sym (eqb-true number n same)) ∙ there)
               ∙ here (number == n) (is_one due) (has mark due) (is_of mark) same (sym (ap (λ k. (number == n) && (k && is_of mark)) kind) ∙ both)
           by false both = same_as mark n both holds
       from mark n false other holds = same_as mark n (ap (λ same. same && (b && is_of mark)) other) holds
 
   -- a change takes no marks but these, and brings none
-  pub within_changed : (marks : NumbersByMark) (now was : List (ℕ × Due)) (f : Due → Due) → StandAs (λ mark d. is_one d && has mark d) marks was → now ≡ changed_at number f was →
+  pub within_changed : (marks : NumbersByMark) (now was : List (ℕ × Due)) (f : Due → Due) → StandAs one_has marks was → now ≡ changed_at number f was →
       ((due : Due) → at number was ≡ Some due → (is_one due ≡ is_one (f due)) × ((mark : ℕ) → (has mark (f due) ≡ true → has mark due ≡ true) × (has mark due ≡ true → (has mark (f due) || is_of mark) ≡ true))) →
       StandWithin is_one has is_of number marks now
   within_changed marks now was f stood is changes = λ mark n.
-      subst (λ o. (option_map_or (λ d. is_one d && has mark d) o false ≡ true → has_number marks mark n ≡ true)
-      × (has_number marks mark n ≡ true → option_map_or (λ d. is_one d && (has mark d || ((number == n) && is_of mark))) o false ≡ true))
+      subst (λ o. (stand mark o ≡ true → has_number marks mark n ≡ true)
+      × (has_number marks mark n ≡ true → may (number == n) mark o ≡ true))
       (sym (at_changed now was number f is n)) (from mark n (number == n) refl)
     where
       at_one : (mark : ℕ) (x a c h g : Bool) → a ≡ c → x ≡ (a && h) → (g ≡ true → h ≡ true) → (h ≡ true → (g || is_of mark) ≡ true) → ((c && g) ≡ true → x ≡ true) × (x ≡ true → (c && (g || is_of mark)) ≡ true)
@@ -243,17 +241,17 @@ module _ (is_one : Due → Bool) (has : ℕ → Due → Bool) (is_of : ℕ → B
       at_one mark x a false h g kind so low high = (λ holds. absurd (let e : false ≡ true = holds in cc), λ there. sym (so ∙ ap (λ b. b && h) kind) ∙ there)
 
       changed : (mark n : ℕ) (o : Option Due) → at number was ≡ o → at n was ≡ o →
-          (option_map_or (λ d. is_one d && has mark d) (option_map f o) false ≡ true → has_number marks mark n ≡ true)
-          × (has_number marks mark n ≡ true → option_map_or (λ d. is_one d && (has mark d || is_of mark)) (option_map f o) false ≡ true)
-      changed mark n None there here = (λ holds. absurd (let e : false ≡ true = holds in cc), λ holds. sym (stood mark n ∙ ap (λ o. option_map_or (λ d. is_one d && has mark d) o false) here) ∙ holds)
+          (stand mark (option_map f o) ≡ true → has_number marks mark n ≡ true)
+          × (has_number marks mark n ≡ true → may true mark (option_map f o) ≡ true)
+      changed mark n None there here = (λ holds. absurd (let e : false ≡ true = holds in cc), λ holds. sym (stood mark n ∙ ap (stand mark) here) ∙ holds)
       changed mark n (Some due) there here =
           let change = changes due there in
-          at_one mark (has_number marks mark n) (is_one due) (is_one (f due)) (has mark due) (has mark (f due)) change.0 (stood mark n ∙ ap (λ o. option_map_or (λ d. is_one d && has mark d) o false) here) (change.1 mark).0 (change.1 mark).1
+          at_one mark (has_number marks mark n) (is_one due) (is_one (f due)) (has mark due) (has mark (f due)) change.0 (stood mark n ∙ ap (stand mark) here) (change.1 mark).0 (change.1 mark).1
 
       from : (mark n : ℕ) (same : Bool) → (number == n) ≡ same →
-          (option_map_or (λ d. is_one d && has mark d) (cond same (option_map f (at number was)) (at n was)) false ≡ true → has_number marks mark n ≡ true)
-          × (has_number marks mark n ≡ true → option_map_or (λ d. is_one d && (has mark d || ((number == n) && is_of mark))) (cond same (option_map f (at number was)) (at n was)) false ≡ true)
+          (stand mark (cond same (option_map f (at number was)) (at n was)) ≡ true → has_number marks mark n ≡ true)
+          × (has_number marks mark n ≡ true → may (number == n) mark (cond same (option_map f (at number was)) (at n was)) ≡ true)
       from mark n true same =
           let both = changed mark n (at number was) refl (ap (λ k. at k was) (sym (eqb-true number n same))) in
-          (both.0, λ holds. ap (λ b. option_map_or (λ d. is_one d && (has mark d || (b && is_of mark))) (option_map f (at number was)) false) same ∙ both.1 holds)
+          (both.0, λ holds. ap (λ b. may b mark (option_map f (at number was))) same ∙ both.1 holds)
       from mark n false other = exact mark (at n was) (number == n) (has_number marks mark n) (stood mark n)

@@ -62,9 +62,11 @@ impl Index {
 
     /// Notes a content, whatever its entries are. On an error it may stand under some of its marks.
     pub(crate) fn note_content(&mut self, due: &Due, number: u64) -> Result<(), AllocError>
-        ensures noted { OnOk result (IsNotedAs due.now.is_batch (λ mark. content_has mark due.now) (λ mark. false) number self.new) }
+        ensures noted { OnOk result
+            (IsNotedAs due.now.is_batch (λ mark. content_has mark due.now) (λ mark. false) number self.new) }
         ensures kept { KeepsAll self.new self.old }
-        ensures others { IsSameAllBut due.now.is_batch (λ mark. content_has mark due.now) (λ mark. false) number self.new self.old }
+        ensures others { IsSameAllBut due.now.is_batch (λ mark. content_has mark due.now) (λ mark. false) number
+            self.new self.old }
     {
         if due.is_batch() {
             marking::note_content(&mut self.batches, due, number)
@@ -80,9 +82,11 @@ impl Index {
         entry: &EntryMarks,
         number: u64,
     ) -> Result<(), AllocError>
-        ensures noted { OnOk result (IsNotedAs is_batch (marks_have entry.now) (is_mark entry.now.request) number self.new) }
+        ensures noted { OnOk result
+            (IsNotedAs is_batch (marks_have entry.now) (is_mark entry.now.request) number self.new) }
         ensures kept { KeepsAll self.new self.old }
-        ensures others { IsSameAllBut is_batch (marks_have entry.now) (is_mark entry.now.request) number self.new self.old }
+        ensures others { IsSameAllBut is_batch (marks_have entry.now) (is_mark entry.now.request) number
+            self.new self.old }
     {
         marking::note_some(entry.request, &mut self.uncancelled, number)?;
         if is_batch {
@@ -107,7 +111,8 @@ impl Index {
 
     /// Forgets a content.
     pub(crate) fn forget_content(&mut self, due: &Due, number: u64)
-        ensures { IsAllWithout due.now.is_batch (λ mark. due_has mark due.now) (λ mark. uncancelled_has mark due.now) number self.new self.old }
+        ensures { IsAllWithout due.now.is_batch (λ mark. due_has mark due.now) (λ mark. uncancelled_has mark due.now)
+            number self.new self.old }
     {
         if due.is_batch() {
             marking::forget_content(&mut self.batches, &mut self.uncancelled, due, number);

@@ -57,8 +57,7 @@ impl OpenContents {
         self.dues.get(number)
     }
 
-    /// The least number behind `after` under a mark, among such contents. Each of these with this mark stands there; others may
-    /// as well.
+    /// The least number behind `after` under a mark, among such contents. Just those with this mark stand there.
     pub fn next_with(&self, among: Among, mark: u128, after: u64) -> Option<u64>
         requires { IsOpen self.now }
         ensures { MatchOption result
@@ -145,7 +144,8 @@ impl OpenContents {
         requires there { is_some (at number (open_entries self.old)) ≡ true }
         requires entry { (mark : ℕ) → marks_have entry.now mark ≡ entry_has mark owed }
         requires request { (mark : ℕ) → is_mark entry.now.request mark ≡ request_has mark owed }
-        ensures ok { OnOk result (open_entries self.new ≡ changed_at number (and_owed owed) (open_entries self.old)) }
+        ensures ok { OnOk result
+            (open_entries self.new ≡ changed_at number (and_owed owed) (open_entries self.old)) }
         ensures stands { OnOk result (IsOpen self.new) }
         ensures err { OnErr result (open_entries self.new ≡ open_entries self.old) }
         ensures within { OnErr result (IsOpenWithin entry.now number self.new) }
