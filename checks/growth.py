@@ -173,7 +173,8 @@ JUDGED = [
     ),
 ]
 # Known to take the square of the size: each single answer is tried on what is left of a batch, and each cancel by MCP's
-# rules on all that has its id. Of equal ids the first one fits, and what is behind it is moved, which shows at this size.
+# rules on all that has its id, as is an answer where nothing must be answered. Of equal ids in a batch the first one fits,
+# and what is behind it is moved, which shows at this size.
 SQUARES = [
     (
         "a batch of equal ids, answered one by one",
@@ -182,8 +183,8 @@ SQUARES = [
     ),
     ("a batch, answered one by one", lambda size: shown(array_of(">", to(size), asks), *map(answers, to(size))), 300),
     (
-        "cancels of equal ids, by MCP's rules",
-        lambda size: shown(*[asks(1)] * size, *[left(1)] * size, rules="mcp"),
+        "cancels of equal ids by MCP's rules, and answers to these",
+        lambda size: shown(*[asks(1)] * size, *[left(1)] * size, *[answers(1)] * size, rules="mcp"),
         150,
     ),
 ]
