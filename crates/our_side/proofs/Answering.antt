@@ -530,7 +530,7 @@ module _ (protocol : Protocol) (sight : Sight) (message : Message) (replies : Li
   taken : Taken
   taken = taken_by_count (wholes (is_just_due (id ∷ more)) owed) refl
 
-  it : TakesWhole taken.test owed
+  abbrev it : TakesWhole taken.test owed
   it = taken.it
 
   batch_is : array_target given owed ≡ Some it.content

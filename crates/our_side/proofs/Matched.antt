@@ -313,7 +313,7 @@ array_answers_none protocol sight message replies ids owed id more read any = fr
     from : (o : Option ℕ) → position (is_just_due (id ∷ more)) owed ≡ o → NoneOf is_of_answers (answers_findings protocol sight message true replies ids owed)
     from (Some place) is =
         let it = found_place (is_just_due (id ∷ more)) owed place is in
-        none_of_it place it.it (target_is (Some place) is) it.there
+        none_of_it it.place it.it (target_is (Some it.place) it.is) it.there
     from None is =
         let it = placed (is_just (id ∷ more)) owed any in
         none_of_it it.place it.it (target_is None is ∙ ap (λ o. option_map_or Some o (position (can_be_answered (id ∷ more) (count_by is_none ids)) owed)) it.is) it.there
