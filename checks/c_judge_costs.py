@@ -5,7 +5,7 @@ judge, beside those of a connection that is fed the same requests and answers th
 judged and no faster, where all is answered at once, and where all is open before the first answer comes, with ids that
 are numbers and that are strings: twice as many take at most 2.2 times the instructions, as do contents that can't be
 read behind as many open requests, and the memory of 200,000 is at most 2.2 times that of 100,000; and where all is answered
-at once, with ids that are numbers, 1,000, 100,000 and 200,000 hold the same bytes, 20,592. Instructions are callgrind's."""
+at once, with ids that are numbers, 1,000, 100,000 and 200,000 hold the same bytes, 21,208. Instructions are callgrind's."""
 import argparse
 import os
 import subprocess
@@ -21,7 +21,7 @@ from support.callgrind import instructions
 COUNT, MOST_GROWTH = 10_000, 2.2
 # A request and its answer before the judge take so many times what a connection takes for them: a fortieth more than was
 # measured (docs/performance.md).
-MOST_TIMES = 3.22
+MOST_TIMES = 3.14
 FEWEST_HELD, FEW_HELD, MANY_HELD = 1_000, 100_000, 200_000
 KINDS = tuple(f"{way}{ids}" for ids in ("", "-strings") for way in ("passed", "open", "reversed"))
 # Contents that can't be read, behind as many open requests.
