@@ -187,8 +187,8 @@ class Windows(Port):
         return f"{self.room}/{of}.lib"
 
     def linked(self, made: str, words: list[str]) -> None:
-        all_words = ["/dll", "/machine:x64", "/nodefaultlib", "/brepro", "/opt:ref,safeicf", "/lldmingw", f"/out:{made}"]
-        called("lld-link", *all_words, *words, self.imports("msvcrt.dll", OF_C_IN_THE_ADDON))
+        all_words = ["/dll", "/machine:x64", "/nodefaultlib", "/brepro", "/opt:ref,safeicf", "/lldmingw"]
+        called("lld-link", *all_words, f"/out:{made}", *words, self.imports("msvcrt.dll", OF_C_IN_THE_ADDON))
 
     def make_library(self, objects: list[str]) -> None:
         self.archive(objects)
