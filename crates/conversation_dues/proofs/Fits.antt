@@ -10,7 +10,8 @@ use Rattle.conversation_rules.specs.Dues.{ids_read, fits_of, fit_of, in_order, a
 use Rattle.conversation_rules.specs.Matching.{taken_by, nulls_last}
 use Rattle.conversation_rules.specs.Owed.{Owed, Due}
 use Rattle.conversation_rules.specs.declared.found.Fit.{Fit}
-use Rattle.conversation_dues.specs.Left.{IsLeftOf, ids_of, left_after, left_of}
+use Rattle.conversation_dues.specs.Left.{ids_of, left_after, left_of}
+use Rattle.conversation_open.specs.Left.{IsLeftOf}
 use Rattle.conversation_dues.specs.declared.arrays.Which.TheVariants.{Named, Nulls}
 
 left_of-append : (xs ys : List WrittenId) (left : List Owed) → left_of (xs ++ ys) left ≡ left_of ys (left_of xs left)
@@ -41,15 +42,15 @@ drop-seam [] ys = refl
 drop-seam (x ∷ xs) ys = drop-seam xs ys
 
 -- what is told so far, and then of what is left
-pub record IsToldTo (due : Due) (places : List ℕ) (fits : List (Option Fit)) (rest : List WrittenId) (left : List Owed) (end : List (Option Fit)) : Type 0 where
+pub record IsToldTo (due : Due) (read : ℕ → Option Owed) (places : List ℕ) (fits : List (Option Fit)) (rest : List WrittenId) (left : List Owed) (end : List (Option Fit)) : Type 0 where
   pub now : List Owed
-  pub at : IsLeftOf (slice_get due.entries) places now
+  pub at : IsLeftOf read places now
   pub same_left : left_of rest now ≡ left
   pub same_fits : fits ++ fits_of due rest now ≡ end
 
-pub told_one : (due : Due) (places : List ℕ) (was fits : List (Option Fit)) (all one rest : List WrittenId) (now left : List Owed) (end : List (Option Fit)) → all ≡ one ++ rest →
-    left_of all now ≡ left → was ++ fits_of due all now ≡ end → IsLeftOf (slice_get due.entries) places (left_of one now) → fits ≡ was ++ fits_of due one now → IsToldTo due places fits rest left end
-told_one due places was fits all one rest now left end parts is_left is_told at more = record {
+pub told_one : (due : Due) (read : ℕ → Option Owed) (places : List ℕ) (was fits : List (Option Fit)) (all one rest : List WrittenId) (now left : List Owed) (end : List (Option Fit)) → all ≡ one ++ rest →
+    left_of all now ≡ left → was ++ fits_of due all now ≡ end → IsLeftOf read places (left_of one now) → fits ≡ was ++ fits_of due one now → IsToldTo due read places fits rest left end
+told_one due read places was fits all one rest now left end parts is_left is_told at more = record {
   now = left_of one now;
   at = at;
   same_left = sym (left_of-append one rest now) ∙ ap (λ ids. left_of ids now) (sym parts) ∙ is_left;

@@ -1,102 +1,19 @@
--- What is left of a list, by the places of what is left.
-use Rattle.std.proofs.Common.{◌≡◌, ◌&&◌, ◌||◌, ℕ, zero, suc, ◌+◌, ◌<◌, List, [], ◌∷◌, ◌++◌, Bool, true, false, Option, Some, None, length, take, drop, get_or, position, map, filter, refl, ap, sym, subst, ◌∙◌, arith, cond, if◌then◌else◌, option_map, ltb-true}
-use Rattle.std.specs.Prelude.{not, nat_lt, count_by, option_and_then, is_some}
-use Rattle.std.specs.List.{cons_option, remove, slice_get, position_or_len, list_any}
+-- What the answers of an array leave of a batch.
+use Rattle.std.proofs.Common.{◌≡◌, ◌&&◌, ◌||◌, ℕ, suc, ◌+◌, ◌<◌, List, [], ◌∷◌, ◌++◌, Bool, true, false, Option, Some, None, length, drop, get_or, position, map, filter, refl, ap, sym, subst, ◌∙◌, cond, if◌then◌else◌, option_map}
+use Rattle.std.specs.Prelude.{not, option_and_then, is_some}
+use Rattle.std.specs.List.{cons_option, remove, list_any}
 use Rattle.std.specs.Option.{option_map_or}
-use Rattle.std.proofs.lemmas.List.Sums.{length-filter}
-use Rattle.std.proofs.lemmas.Bool.{lt-ltb}
 use Rattle.conversation_dues.proofs.Steps.{drop_here}
+use Rattle.conversation_open.proofs.Lists.{position-first, remove-left}
 use Rattle.conversation_reading.specs.declared.entry.WrittenId.{WrittenId}
 use Rattle.conversation_rules.specs.Amounts.{same_id}
 use Rattle.conversation_rules.specs.Dues.{ids_read}
 use Rattle.conversation_rules.specs.Matching.{without_id, same_ids, taken_by, left_by, nulls_last, leaves_no_request}
 use Rattle.conversation_rules.specs.Owed.{Owed, is_expected, may_have, has_id}
-use Rattle.conversation_dues.specs.Left.{IsLeftOf, IsTaken, at_test, is_of, ids_of, all_taken, choice, expects_any, expected_of}
+use Rattle.conversation_dues.specs.Left.{IsTaken, is_of, ids_of, all_taken, choice, expects_any, expected_of}
+use Rattle.conversation_open.specs.Left.{IsLeftOf}
 use Rattle.conversation_dues.specs.declared.arrays.Which.{Which}
 use Rattle.conversation_dues.specs.declared.arrays.Which.TheVariants.{Expected, Named, Nulls}
-
--- ---- places and what stands there
-
-same_front : {X : Type 0} (at : ℕ → Option X) (i : ℕ) (x : X) (places : List ℕ) (left : List X) → map at (i ∷ places) ≡ map Some (x ∷ left) → at i ≡ Some x
-same_front at i x places left is = let e : at i ∷ map at places ≡ Some x ∷ map Some left = is in cc
-
-same_rest : {X : Type 0} (at : ℕ → Option X) (i : ℕ) (x : X) (places : List ℕ) (left : List X) → map at (i ∷ places) ≡ map Some (x ∷ left) → map at places ≡ map Some left
-same_rest at i x places left is = let e : at i ∷ map at places ≡ Some x ∷ map Some left = is in cc
-
-pub same_length : {X : Type 0} (at : ℕ → Option X) (places : List ℕ) (left : List X) → map at places ≡ map Some left → length places ≡ length left
-same_length at [] [] is = refl
-same_length at [] (x ∷ left) is = absurd (let e : [] ≡ Some x ∷ map Some left = is in cc)
-same_length at (i ∷ places) [] is = absurd (let e : at i ∷ map at places ≡ [] = is in cc)
-same_length at (i ∷ places) (x ∷ left) is = ap suc (same_length at places left (same_rest at i x places left is))
-
-same_place : {X : Type 0} (p : X → Bool) (at : ℕ → Option X) (places : List ℕ) (left : List X) → map at places ≡ map Some left → position_or_len (at_test p at) places ≡ position_or_len p left
-same_place p at [] [] is = refl
-same_place p at [] (x ∷ left) is = absurd (let e : [] ≡ Some x ∷ map Some left = is in cc)
-same_place p at (i ∷ places) [] is = absurd (let e : at i ∷ map at places ≡ [] = is in cc)
-same_place p at (i ∷ places) (x ∷ left) is =
-    ap (λ o. cond (not (option_map_or p o false)) (1 + position_or_len (at_test p at) places) 0) (same_front at i x places left is)
-    ∙ ap (λ n. cond (not (p x)) (1 + n) 0) (same_place p at places left (same_rest at i x places left is))
-
-pub position-left : {X : Type 0} (p : X → Bool) (at : ℕ → Option X) (places : List ℕ) (left : List X) → map at places ≡ map Some left → position (at_test p at) places ≡ position p left
-position-left p at places left is =
-    let a = same_place p at places left is in
-    let b = same_length at places left is in
-    ap (λ n. cond (nat_lt n (length places)) (Some n) None) a ∙ ap (λ n. cond (nat_lt (position_or_len p left) n) (Some (position_or_len p left)) None) b
-
-map-remove : {X Y : Type 0} (f : X → Y) (xs : List X) (k : ℕ) → map f (remove xs k) ≡ remove (map f xs) k
-map-remove f [] zero = refl
-map-remove f [] (suc k) = refl
-map-remove f (x ∷ xs) zero = refl
-map-remove f (x ∷ xs) (suc k) = ap (λ ys. f x ∷ ys) (map-remove f xs k)
-
-pub remove-left : {X : Type 0} (at : ℕ → Option X) (places : List ℕ) (left : List X) (k : ℕ) → map at places ≡ map Some left → map at (remove places k) ≡ map Some (remove left k)
-remove-left at places left k is = map-remove at places k ∙ ap (λ xs. remove xs k) is ∙ sym (map-remove Some left k)
-
-pub at-left : {X : Type 0} (at : ℕ → Option X) (places : List ℕ) (left : List X) (k : ℕ) → map at places ≡ map Some left → option_and_then at (slice_get places k) ≡ slice_get left k
-at-left at [] [] k is = refl
-at-left at [] (x ∷ left) k is = absurd (let e : [] ≡ Some x ∷ map Some left = is in cc)
-at-left at (i ∷ places) [] k is = absurd (let e : at i ∷ map at places ≡ [] = is in cc)
-at-left at (i ∷ places) (x ∷ left) zero is = same_front at i x places left is
-at-left at (i ∷ places) (x ∷ left) (suc k) is = at-left at places left k (same_rest at i x places left is)
-
--- all places of a list
-pub more_places : {X : Type 0} (xs : List X) (i : ℕ) → i < length xs → map Some (take i xs) ++ slice_get xs i ∷ [] ≡ map Some (take (suc i) xs)
-more_places [] i lt = absurd (let e : i < 0 = lt in omega (arith, e))
-more_places (x ∷ xs) zero lt = refl
-more_places (x ∷ xs) (suc i) lt = ap (λ os. Some x ∷ os) (more_places xs i (let e : suc i < suc (length xs) = lt in omega (arith, e)))
-
-map-append : {X Y : Type 0} (f : X → Y) (xs ys : List X) → map f (xs ++ ys) ≡ map f xs ++ map f ys
-map-append f [] ys = refl
-map-append f (x ∷ xs) ys = ap (λ zs. f x ∷ zs) (map-append f xs ys)
-
-pub place_more : {X : Type 0} (xs : List X) (places : List ℕ) (i : ℕ) → i < length xs → map (slice_get xs) places ≡ map Some (take i xs) → map (slice_get xs) (places ++ i ∷ []) ≡ map Some (take (i + 1) xs)
-place_more xs places i lt is =
-    map-append (slice_get xs) places (i ∷ []) ∙ ap (λ os. os ++ slice_get xs i ∷ []) is ∙ more_places xs i lt ∙ ap (λ n. map Some (take n xs)) (let e : suc i ≡ i + 1 = omega arith in e)
-
--- ---- a test of what is left
-
-pub any-left : {X : Type 0} (p : X → Bool) (at : ℕ → Option X) (places : List ℕ) (left : List X) → map at places ≡ map Some left → list_any (at_test p at) places ≡ list_any p left
-any-left p at [] [] is = refl
-any-left p at [] (x ∷ left) is = absurd (let e : [] ≡ Some x ∷ map Some left = is in cc)
-any-left p at (i ∷ places) [] is = absurd (let e : at i ∷ map at places ≡ [] = is in cc)
-any-left p at (i ∷ places) (x ∷ left) is =
-    ap (λ o. option_map_or p o false || list_any (at_test p at) places) (same_front at i x places left is)
-    ∙ ap (λ b. p x || b) (any-left p at places left (same_rest at i x places left is))
-
-same_if : {X Y : Type 0} (b : Bool) (x : X) (y : Y) (xs : List X) (ys : List Y) → length xs ≡ length ys → length (if b then x ∷ xs else xs) ≡ length (if b then y ∷ ys else ys)
-same_if true x y xs ys is = ap suc is
-same_if false x y xs ys is = is
-
-same_filter : {X : Type 0} (p : X → Bool) (at : ℕ → Option X) (places : List ℕ) (left : List X) → map at places ≡ map Some left → length (filter (at_test p at) places) ≡ length (filter p left)
-same_filter p at [] [] is = refl
-same_filter p at [] (x ∷ left) is = absurd (let e : [] ≡ Some x ∷ map Some left = is in cc)
-same_filter p at (i ∷ places) [] is = absurd (let e : at i ∷ map at places ≡ [] = is in cc)
-same_filter p at (i ∷ places) (x ∷ left) is =
-    ap (λ o. length (if option_map_or p o false then i ∷ filter (at_test p at) places else filter (at_test p at) places)) (same_front at i x places left is)
-    ∙ same_if (p x) i x (filter (at_test p at) places) (filter p left) (same_filter p at places left (same_rest at i x places left is))
-
-pub count-left : {X : Type 0} (p : X → Bool) (at : ℕ → Option X) (places : List ℕ) (left : List X) → map at places ≡ map Some left → count_by (at_test p at) places ≡ count_by p left
-count-left p at places left is = sym (length-filter (at_test p at) places) ∙ same_filter p at places left is ∙ length-filter p left
 
 -- ---- ids, one after another
 
@@ -207,28 +124,6 @@ pub can_be : (unnamed : ℕ) (ids : List (Option WrittenId)) (left now end : Lis
 can_be unnamed ids left now end e f = sym (ap (λ o. option_map_or (leaves_no_request unnamed) o false) (both_by ids left ∙ ap (option_and_then (all_taken (choice Nulls) (ids_of Nulls ids))) e ∙ f))
 
 -- ---- just the ids that are expected
-
-lt_more : (n m : ℕ) → nat_lt (1 + n) (suc m) ≡ nat_lt n m
-lt_more n m = both (nat_lt (1 + n) (suc m)) (nat_lt n m) (λ is. let e = ltb-true (1 + n) (suc m) is in lt-ltb n m (omega arith)) (λ is. let e = ltb-true n m is in lt-ltb (1 + n) (suc m) (omega arith))
-  where
-    both : (a b : Bool) → (a ≡ true → b ≡ true) → (b ≡ true → a ≡ true) → a ≡ b
-    both true true f g = refl
-    both true false f g = sym (f refl)
-    both false true f g = g refl
-    both false false f g = refl
-
-position-by : {X : Type 0} (p : X → Bool) (b : Bool) (xs : List X) →
-    cond (nat_lt (cond (not b) (1 + position_or_len p xs) 0) (suc (length xs))) (Some (cond (not b) (1 + position_or_len p xs) 0)) None ≡ cond b (Some 0) (option_map suc (position p xs))
-position-by p true xs = ap (λ t. cond t (Some 0) None) (lt-ltb 0 (suc (length xs)) (omega arith))
-position-by p false xs = ap (λ t. cond t (Some (1 + position_or_len p xs)) None) (lt_more (position_or_len p xs) (length xs)) ∙ by_test (nat_lt (position_or_len p xs) (length xs)) (position_or_len p xs)
-  where
-    by_test : (t : Bool) (n : ℕ) → cond t (Some (1 + n)) None ≡ option_map suc (cond t (Some n) None)
-    by_test true n = ap Some (let e : 1 + n ≡ suc n = omega arith in e)
-    by_test false n = refl
-
--- the first, or one of the others
-pub position-first : {X : Type 0} (p : X → Bool) (x : X) (xs : List X) → position p (x ∷ xs) ≡ cond (p x) (Some 0) (option_map suc (position p xs))
-position-first p x xs = position-by p (p x) xs
 
 none_expected-by : (left : List Owed) (e : Option WrittenId) → same_ids [] (expected_of left) ≡ not (list_any expects_any left) → same_ids [] (cons_option e (expected_of left)) ≡ not (is_some e || list_any expects_any left)
 none_expected-by left None others = others

@@ -3,6 +3,5 @@ pub mod Firsts
 pub mod InLine
 pub mod Left
 pub mod Marked
-pub mod Places
 pub mod Steps
 pub mod Targeted

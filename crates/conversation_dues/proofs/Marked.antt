@@ -2,9 +2,10 @@
 use Rattle.std.proofs.Common.{◌≡◌, ◌⊎◌, inl, inr, ℕ, zero, suc, ◌==◌, ◌&&◌, ◌||◌, not, Bool, true, false, if◌then◌else◌, List, [], ◌∷◌, ◌++◌, Option, Some, None, refl, ap, sym, ◌∙◌, position, remove, filter, cond, option_map, eq-eqb}
 use Rattle.std.specs.List.{list_any}
 use Rattle.std.specs.Prelude.{count_by}
-use Rattle.std.specs.Option.{option_map_or, option_and_then, is_none}
+use Rattle.std.specs.Option.{IfSome, option_map_or, option_and_then, is_none}
 use Rattle.std.proofs.lemmas.Bool.{false_from_ne_true}
-use Rattle.conversation_dues.proofs.Left.{position-first, without-is}
+use Rattle.conversation_dues.proofs.Left.{without-is}
+use Rattle.conversation_open.proofs.Lists.{position-first}
 use Rattle.conversation_dues.specs.Answered.{is_answered}
 use Rattle.conversation_dues.specs.Left.{expected_of}
 use Rattle.conversation_dues.specs.declared.batches.Answer.{Answer}
@@ -12,6 +13,9 @@ use Rattle.conversation_dues.specs.declared.batches.Answer.TheVariants.{JustDue,
 use Rattle.conversation_ids.specs.Marks.{mark_of, null_mark}
 use Rattle.conversation_ids.proofs.OneMark.{one_mark}
 use Rattle.conversation_ids.specs.OwedMarks.{has_mark, entry_has, content_has, due_has}
+use Rattle.conversation_open.specs.Open.{among_has, among_is_due, is_among, is_due_by}
+use Rattle.conversation_open.specs.declared.among.Among.{Among as Sides}
+use Rattle.conversation_open.specs.declared.among.Among.TheVariants.{Singles, Batches, All}
 use Rattle.conversation_reading.specs.declared.entry.WrittenId.{WrittenId}
 use Rattle.conversation_reading.specs.declared.entry.WrittenId.TheVariants.{Null, Text, Number}
 use Rattle.conversation_rules.specs.Amounts.{is_null}
@@ -108,12 +112,15 @@ right_half : (a b : Bool) → (a || b) ≡ false → b ≡ false
 right_half true b none = cc
 right_half false b none = none
 
-pub position_none : (mark : ℕ) (fits : Owed → Bool) (entries : List Owed) → ((owed : Owed) → entry_has mark owed ≡ false → fits owed ≡ false) → list_any (entry_has mark) entries ≡ false → position fits entries ≡ None
-position_none mark fits [] fails none = refl
-position_none mark fits (owed ∷ entries) fails none =
+position_fails : (p fits : Owed → Bool) (entries : List Owed) → ((owed : Owed) → p owed ≡ false → fits owed ≡ false) → list_any p entries ≡ false → position fits entries ≡ None
+position_fails p fits [] fails none = refl
+position_fails p fits (owed ∷ entries) fails none =
     position-first fits owed entries
-    ∙ ap (λ b. cond b (Some 0) (option_map suc (position fits entries))) (fails owed (left_half (entry_has mark owed) (list_any (entry_has mark) entries) none))
-    ∙ ap (option_map suc) (position_none mark fits entries fails (right_half (entry_has mark owed) (list_any (entry_has mark) entries) none))
+    ∙ ap (λ b. cond b (Some 0) (option_map suc (position fits entries))) (fails owed (left_half (p owed) (list_any p entries) none))
+    ∙ ap (option_map suc) (position_fails p fits entries fails (right_half (p owed) (list_any p entries) none))
+
+pub position_none : (mark : ℕ) (fits : Owed → Bool) (entries : List Owed) → ((owed : Owed) → entry_has mark owed ≡ false → fits owed ≡ false) → list_any (entry_has mark) entries ≡ false → position fits entries ≡ None
+position_none mark fits entries fails none = position_fails (entry_has mark) fits entries fails none
 
 pub any_none : (mark : ℕ) (fits : Owed → Bool) (entries : List Owed) → ((owed : Owed) → entry_has mark owed ≡ false → fits owed ≡ false) → list_any (entry_has mark) entries ≡ false → list_any fits entries ≡ false
 any_none mark fits [] fails none = refl
@@ -133,6 +140,39 @@ place_none mark batches fits due fails none = by (if batches then due.is_batch e
     by : (b : Bool) → (if b then position fits due.entries else None) ≡ None
     by true = position_none mark fits due.entries fails (entries_none mark due none)
     by false = refl
+
+-- what must be answered
+due_found : (id : WrittenId) (owed : Owed) → is_due_by (mark_of id) owed ≡ false → is_due_for id owed ≡ false
+due_found id owed none = unless (is_due_by (mark_of id) owed) (is_due_for id owed) (λ is. by owed.must (is_expected id owed) (has_mark (mark_of id) owed.expected) (same_found id owed.expected) is) none
+  where
+    by : (must expected has : Bool) → (expected ≡ true → has ≡ true) → (must && expected) ≡ true → (must && has) ≡ true
+    by true expected has found is = found is
+    by false expected has found is = is
+
+pub due_none : (batches : Bool) (id : WrittenId) (due : Due) → list_any (is_due_by (mark_of id)) due.entries ≡ false → place_in batches (is_due_for id) due ≡ None
+due_none batches id due none = by (if batches then due.is_batch else not due.is_batch)
+  where
+    by : (b : Bool) → (if b then position (is_due_for id) due.entries else None) ≡ None
+    by true = position_fails (is_due_by (mark_of id)) (is_due_for id) due.entries (due_found id) none
+    by false = refl
+
+pub if_some : {X : Type 0} (P Q : X → Type 0) (o : Option X) → ((x : X) → P x → Q x) → IfSome o P → IfSome o Q
+if_some P Q None more is = is
+if_some P Q (Some x) more is = more x is
+
+-- ---- where something is looked for
+
+either_none : {P : Type 0} (a b : Bool) → (a ≡ false → P) → (b ≡ false → P) → (a && b) ≡ false → P
+either_none true b first second none = second none
+either_none false b first second none = first refl
+
+pub awaited_none : {P : Type 0} (among : Sides) (mark : ℕ) (due : Due) → (is_among among due ≡ false → P) → (list_any (is_due_by mark) due.entries ≡ false → P) → among_is_due among mark due ≡ false → P
+awaited_none among mark due outside unmarked none = either_none (is_among among due) (list_any (is_due_by mark) due.entries) outside unmarked none
+
+pub among_none : {P : Type 0} (among : Sides) (mark : ℕ) (due : Due) → (is_among among due ≡ false → P) → (due_has mark due ≡ false → P) → among_has among mark due ≡ false → P
+among_none Singles mark due outside unmarked none = either_none (not due.is_batch) (due_has mark due) outside unmarked none
+among_none Batches mark due outside unmarked none = either_none due.is_batch (due_has mark due) outside unmarked none
+among_none All mark due outside unmarked none = unmarked none
 
 -- ---- arrays
 

@@ -1,5 +1,5 @@
 -- The batch that an array of answers is for.
-use Rattle.std.proofs.Common.{◌≡◌, ◌&&◌, not, ℕ, Bool, List, [], ◌∷◌, true, false, Option, Some, None, Result, Ok, Err, IfOk, position, option_map, refl, ap, sym, ◌∙◌}
+use Rattle.std.proofs.Common.{◌≡◌, ◌&&◌, not, ℕ, Bool, List, [], ◌∷◌, true, false, Option, Some, None, Result, Ok, Err, IfOk, position, refl, ap, sym, ◌∙◌}
 use Rattle.std.specs.Prelude.{count_by, is_some}
 use Rattle.std.specs.List.{list_any}
 use Rattle.std.specs.Option.{option_map_or, is_none}
@@ -11,7 +11,7 @@ use Rattle.conversation_open.specs.Open.{among_has}
 use Rattle.conversation_open.specs.declared.among.Among.TheVariants.{Batches}
 use Rattle.conversation_reading.specs.declared.entry.WrittenId.{WrittenId}
 use Rattle.conversation_rules.specs.Dues.{ids_read, array_target}
-use Rattle.conversation_rules.specs.Matching.{is_just_due, is_just, can_be_answered, left_batch_target, batch_target, is_guess, same_ids, expected_ids, left_by, leaves_no_request, nulls_last}
+use Rattle.conversation_rules.specs.Matching.{is_just_due, is_just, left_batch_target, batch_target, is_guess, same_ids, expected_ids, left_by, leaves_no_request, nulls_last}
 use Rattle.conversation_rules.specs.Owed.{Due}
 
 no_ids : (ids : List (Option WrittenId)) → list_any is_some ids ≡ false → ids_read ids ≡ []
@@ -65,19 +65,15 @@ pub no_batch : (read : List WrittenId) (dues : List Due) → any_batch dues ≡ 
 no_batch [] dues none = refl
 no_batch (id ∷ ids) dues none = sym (ap (λ b. b && not (list_any (is_just (id ∷ ids)) dues)) none)
 
-there : (o : Option ℕ) → is_some {T = ℕ × ℕ} (option_map (λ n. (n, 0)) o) ≡ is_some o
-there None = refl
-there (Some n) = refl
-
 pub none_there : (none some : Bool) → not none ≡ some → none ≡ not some
 none_there true some is = ap not is
 none_there false some is = ap not is
 
 -- else it is where just these are expected from none
-pub guessed : (ids : List (Option WrittenId)) (dues : List Due) (o : Option ℕ) → list_any is_some ids ≡ true → any_batch dues ≡ true → is_some {T = ℕ × ℕ} (option_map (λ n. (n, 0)) o) ≡ list_any (is_just (ids_read ids)) dues
+pub guessed : (ids : List (Option WrittenId)) (dues : List Due) (o : Option ℕ) → list_any is_some ids ≡ true → any_batch dues ≡ true → is_some o ≡ list_any (is_just (ids_read ids)) dues
     → not (is_some o) ≡ is_guess (ids_read ids) dues
 guessed ids dues o named open_one found =
-    ap not (sym (there o) ∙ found) ∙ ap (λ b. b && not (list_any (is_just (ids_read ids)) dues)) (sym open_one) ∙ guess_of (ids_read ids) dues (some_ids ids named)
+    ap not found ∙ ap (λ b. b && not (list_any (is_just (ids_read ids)) dues)) (sym open_one) ∙ guess_of (ids_read ids) dues (some_ids ids named)
 
 -- ---- what is no batch is answered by no array
 

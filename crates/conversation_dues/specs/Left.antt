@@ -1,65 +1,14 @@
--- What is left of the entries of a batch, once answers have taken some, by the places of those that are left.
-use Rattle.std.specs.Prelude.{◌≡◌, ℕ, ◌+◌, ◌%◌, ◌^◌, ◌&&◌, Bool, true, false, List, [], ◌∷◌, map, filter, position, remove, Option, Some, None, option_map, option_and_then, is_some, not}
+-- Which entries of a batch the answers in an array take, and what they leave.
+use Rattle.std.specs.Prelude.{◌≡◌, ℕ, ◌&&◌, Bool, true, false, List, [], ◌∷◌, filter, position, remove, Option, Some, None, option_and_then, is_some, not}
 use Rattle.std.specs.List.{filter_map}
-use Rattle.std.specs.Option.{option_map_or}
 use Rattle.conversation_reading.specs.declared.entry.WrittenId.{WrittenId}
 use Rattle.conversation_rules.specs.Amounts.{is_null}
 use Rattle.conversation_rules.specs.Dues.{ids_read}
 use Rattle.conversation_rules.specs.Matching.{taken_by}
-use Rattle.conversation_rules.specs.Owed.{Owed, is_expected, may_have}
-use Rattle.conversation_dues.specs.Found.{index_of, values_of}
+use Rattle.conversation_rules.specs.Owed.{Owed, is_expected}
 use Rattle.conversation_dues.specs.declared.arrays.Which.{Which}
 use Rattle.conversation_dues.specs.declared.arrays.Which.TheVariants.{Expected, Named, Nulls}
-use Rattle.conversation_dues.specs.declared.what_is_left.Left.{Left}
-use Rattle.conversation_dues.specs.declared.what_is_left.Taking.{Taking}
-use Rattle.conversation_dues.specs.declared.what_is_left.Taking.TheVariants as ways
-use Rattle.conversation_ids.specs.Marks.{mark_of}
-use Rattle.conversation_open.specs.Marked.{has_number}
-use Rattle.conversation_open.specs.declared.numbers_by_mark.NumbersByMark.{NumbersByMark}
-use Rattle.number_windows.specs.Numbered.{at, Above}
-use Rattle.number_windows.specs.Windows.{window_entries, IsWindow}
-
--- ---- by an index
-
--- the places that are left, by their numbers
-abbrev pub left_entries : Left → List (ℕ × ℕ)
-left_entries left = window_entries left.places
-
-abbrev pub places_of : Left → List ℕ
-places_of left = values_of (left_entries left)
-
--- the how-manieth of them has this number
-abbrev pub index_in : Left → Option ℕ → Option ℕ
-index_in left number = option_map (λ n. index_of n (left_entries left)) number
-
--- an answer with this id takes the entry in this way
-abbrev pub takes : Taking → WrittenId → Owed → Bool
-takes ways.Must id = λ owed. owed.must && is_expected id owed
-takes ways.Expected id = is_expected id
-takes ways.Allowed id = may_have id
-
-abbrev pub key_of : Taking → ℕ → ℕ
-key_of ways.Must mark = (mark + 2 ^ 67) % 2 ^ 128
-key_of ways.Expected mark = (mark + 2 ^ 66) % 2 ^ 128
-key_of ways.Allowed mark = mark
-
-abbrev pub at_test : {X : Type 0} → (X → Bool) → (ℕ → Option X) → ℕ → Bool
-at_test p at place = option_map_or p (at place) false
-
--- each of them stands in the index by the ids of the answers that take it
-abbrev pub IsNoted : (ℕ → Option Owed) → NumbersByMark → List (ℕ × ℕ) → Type 0
-IsNoted entry index places = (number place : ℕ) → at number places ≡ Some place → (taking : Taking) (id : WrittenId) → at_test (takes taking id) entry place ≡ true → has_number index (key_of taking (mark_of id)) number ≡ true
-
-pub record IsFindable (entry : ℕ → Option Owed) (left : Left) : Type 0 where
-  pub window : IsWindow left.places
-  pub above : Above 0 (left_entries left)
-  pub noted : IsNoted entry left.marks (left_entries left)
-
--- ---- by the answers
-
--- these stand at the places that are left
-abbrev pub IsLeftOf : {X : Type 0} → (ℕ → Option X) → List ℕ → List X → Type 0
-IsLeftOf at places left = map at places ≡ map Some left
+use Rattle.conversation_open.specs.Left.{IsLeftOf}
 
 abbrev pub is_of : Which → WrittenId → Bool
 is_of Expected id = true

@@ -1,16 +1,17 @@
 //! What the answers of an array take of a batch.
 
-ghost use Rattle.std.specs.Prelude.{◌≡◌, ◌++◌, ◌∷◌, [], List, Option, Some, false, position, drop, count_by, slice_get, option_map, option_and_then, IfOk, OnOk};
+ghost use Rattle.std.specs.Prelude.{◌≡◌, ◌++◌, ◌∷◌, [], List, Option, Some, true, false, position, drop, count_by, slice_get, option_map, option_and_then, IfOk, IsTrue, OnOk};
 ghost use Rattle.std.specs.List.{list_any};
 ghost use Rattle.std.specs.Option.{option_map_or};
 ghost use Rattle.conversation_reading.specs.declared.entry.WrittenId.{WrittenId};
 ghost use Rattle.conversation_rules.specs.Dues.{ids_read, array_fits, fits_of, fit_of, in_order, first_or_none};
-ghost use Rattle.conversation_rules.specs.Matching.{taken_by, left_by, nulls_last, leaves_no_request, same_ids, is_just, can_be_answered};
+ghost use Rattle.conversation_rules.specs.Matching.{taken_by, left_by, nulls_last, leaves_no_request, same_ids, is_just, is_just_due, can_be_answered};
 ghost use Rattle.conversation_rules.specs.Owed.{Owed as OwedValue, is_expected, may_have};
-ghost use Rattle.conversation_dues.specs.Left.{IsFindable, IsLeftOf, IsTaken, all_taken, are_in_line, choice, expects, ids_of, index_in, is_of, expects_any, expected_of, left_after, left_of, places_of};
+ghost use Rattle.conversation_dues.specs.Left.{IsTaken, all_taken, are_in_line, choice, expects, ids_of, is_of, expects_any, expected_of, left_after, left_of};
+ghost use Rattle.conversation_open.specs.Left.{IsFindable, IsLeftOf, index_in, places_of};
 
-use crate::what_is_left::{Left, Taking};
-use conversation_ids::{Due, Owed, is_null};
+use conversation_ids::{Owed, Way, is_null};
+use conversation_open::{Due, Left, Look};
 use conversation_reading::WrittenId;
 use conversation_rules::Fit;
 use std::alloc::{AllocError, Global};
@@ -46,25 +47,79 @@ pub(crate) fn is_just(
 ) -> Result<bool, AllocError>
     ensures { IfOk result (λ b. b ≡ is_just (ids_read ids.now) due.now) }
 {
-    if due.is_batch() {
-        are_just(alloc, due.entries(), ids)
+    if !due.is_batch() {
+        return Ok(false);
+    }
+    if is_in_line(due, ids) {
+        return Ok(true);
+    }
+    let (entries, places) = due.placed(alloc)?;
+    are_just(alloc, entries, places.as_slice(), ids)
+}
+
+/// The same of one of which an entry must be answered.
+pub(crate) fn is_just_due(
+    alloc: Global,
+    due: &Due,
+    ids: &[Option<WrittenId>],
+) -> Result<bool, AllocError>
+    ensures { IfOk result (λ b. b ≡ is_just_due (ids_read ids.now) due.now) }
+{
+    if must_be_answered(alloc, due)? {
+        is_just(alloc, due, ids)
     } else {
         Ok(false)
     }
 }
 
-fn are_just(alloc: Global, entries: &[Owed], ids: &[Option<WrittenId>]) -> Result<bool, AllocError>
-    ensures { IfOk result (λ b. b ≡ same_ids (ids_read ids.now) (expected_of entries.now)) }
+fn must_be_answered(alloc: Global, due: &Due) -> Result<bool, AllocError>
+    ensures { IfOk result (λ b. b ≡ list_any (λ owed. owed.must) due.now.entries) }
 {
-    if are_in_line(entries, ids) {
-        return Ok(true);
+    match due.in_line() {
+        Some(entries) => Ok(entries.iter().any(|owed| owed.must())),
+        None => any_must(alloc, due),
     }
-    let mut left = Left::all(alloc, entries)?;
+}
+
+fn any_must(alloc: Global, due: &Due) -> Result<bool, AllocError>
+    ensures { IfOk result (λ b. b ≡ list_any (λ owed. owed.must) due.now.entries) }
+{
+    let (entries, places) = due.placed(alloc)?;
+    Ok(any_must_at(entries, places.as_slice()))
+}
+
+fn any_must_at(entries: &[Owed], places: &[usize]) -> bool
+    ensures { result ≡ list_any (λ place. option_map_or (λ owed. owed.must) (slice_get entries.now place) false) places.now }
+{
+    places.iter().any(|place| must_at(entries, *place))
+}
+
+/// Whether the entries stand in one list, and are those that the ids are of, one for one.
+fn is_in_line(due: &Due, ids: &[Option<WrittenId>]) -> bool
+    ensures { IsTrue result → same_ids (ids_read ids.now) (expected_of due.now.entries) ≡ true }
+{
+    match due.in_line() {
+        Some(entries) => are_in_line(entries, ids),
+        None => false,
+    }
+}
+
+/// Whether these ids are expected from the entries at these places, each as often.
+fn are_just(
+    alloc: Global,
+    entries: &[Owed],
+    places: &[usize],
+    ids: &[Option<WrittenId>],
+) -> Result<bool, AllocError>
+    ensures { (all : List OwedValue) → IsLeftOf (slice_get entries.now) places.now all →
+        IfOk result (λ b. b ≡ same_ids (ids_read ids.now) (expected_of all)) }
+{
+    let mut left = Left::of(alloc, entries, places)?;
     if !take_all(Which::Expected, ids, entries, &mut left) {
         return Ok(false);
     }
-    let places = left.into_places(alloc)?;
-    Ok(!any_expects(entries, places.as_slice()))
+    let rest = left.places(alloc)?;
+    Ok(!any_expects(entries, rest.as_slice()))
 }
 
 /// Whether they are those that the entries expect, one for one, as of a side that answers in order. No index is needed then.
@@ -127,7 +182,9 @@ pub(crate) fn can_be_answered(
     ensures { IfOk result (λ b. b ≡ can_be_answered (ids_read ids.now) unnamed due.now) }
 {
     if due.is_batch() {
-        leave_no_request(alloc, due.entries(), ids, unnamed)
+        let (entries, places) = due.placed(alloc)?;
+        let mut left = Left::of(alloc, entries, places.as_slice())?;
+        leave_no_request(alloc, entries, &mut left, ids, unnamed)
     } else {
         Ok(false)
     }
@@ -136,21 +193,22 @@ pub(crate) fn can_be_answered(
 fn leave_no_request(
     alloc: Global,
     entries: &[Owed],
+    left: &mut Left,
     ids: &[Option<WrittenId>],
     unnamed: usize,
 ) -> Result<bool, AllocError>
-    ensures { IfOk result (λ b. b ≡ option_map_or (leaves_no_request unnamed)
-        (left_by (nulls_last (ids_read ids.now)) entries.now) false) }
+    requires { IsFindable (slice_get entries.now) left.old }
+    ensures { (all : List OwedValue) → IsLeftOf (slice_get entries.now) (places_of left.old) all →
+        IfOk result (λ b. b ≡ option_map_or (leaves_no_request unnamed) (left_by (nulls_last (ids_read ids.now)) all) false) }
 {
-    let mut left = Left::all(alloc, entries)?;
-    if !take_all(Which::Named, ids, entries, &mut left) {
+    if !take_all(Which::Named, ids, entries, left) {
         return Ok(false);
     }
-    if !take_all(Which::Nulls, ids, entries, &mut left) {
+    if !take_all(Which::Nulls, ids, entries, left) {
         return Ok(false);
     }
-    let places = left.into_places(alloc)?;
-    Ok(must_count(entries, places.as_slice()) <= unnamed)
+    let rest = left.places(alloc)?;
+    Ok(must_count(entries, rest.as_slice()) <= unnamed)
 }
 
 /// How many of the entries that are left must be answered.
@@ -222,7 +280,7 @@ fn choice(which: Which, id: &WrittenId, entries: &[Owed], places: &Left) -> Opti
         index_in places.now result ≡ choice which id.now left }
 {
     match which {
-        Which::Expected => places.first(entries, Taking::Expected, id),
+        Which::Expected => places.first(entries, Look::Fits(Way::Expects), id),
         Which::Named | Which::Nulls => taken_by(id, entries, places),
     }
 }
@@ -232,7 +290,7 @@ fn taken_by(id: &WrittenId, entries: &[Owed], places: &Left) -> Option<u64>
     ensures { (left : List OwedValue) → IsLeftOf (slice_get entries.now) (places_of places.now) left →
         index_in places.now result ≡ taken_by id.now left }
 {
-    match places.first(entries, Taking::Must, id) {
+    match places.first(entries, Look::Fits(Way::Must), id) {
         Some(number) => Some(number),
         None => taken_rather(id, entries, places),
     }
@@ -244,9 +302,9 @@ fn taken_rather(id: &WrittenId, entries: &[Owed], places: &Left) -> Option<u64>
     ensures { (left : List OwedValue) → IsLeftOf (slice_get entries.now) (places_of places.now) left →
         index_in places.now result ≡ option_map_or Some (position (is_expected id.now) left) (position (may_have id.now) left) }
 {
-    match places.first(entries, Taking::Expected, id) {
+    match places.first(entries, Look::Fits(Way::Expects), id) {
         Some(number) => Some(number),
-        None => places.first(entries, Taking::Allowed, id),
+        None => places.first(entries, Look::Fits(Way::MayHave), id),
     }
 }
 
@@ -258,11 +316,12 @@ pub(crate) fn array_fits(
 ) -> Result<Vec<Option<Fit>>, AllocError>
     ensures { IfOk result (λ fits. fits.items ≡ array_fits ids.now due.now) }
 {
-    let mut places = Left::all(alloc, due.entries())?;
+    let (entries, places) = due.placed(alloc)?;
+    let mut left = Left::of(alloc, entries, places.as_slice())?;
     let mut named = Vec::new(alloc);
-    put_fits(Which::Named, ids, due, &mut places, &mut named)?;
+    put_fits(Which::Named, ids, due, entries, &mut left, &mut named)?;
     let mut nulls = Vec::new(alloc);
-    put_fits(Which::Nulls, ids, due, &mut places, &mut nulls)?;
+    put_fits(Which::Nulls, ids, due, entries, &mut left, &mut nulls)?;
     in_order(alloc, ids, named.as_slice(), nulls.as_slice())
 }
 
@@ -271,17 +330,18 @@ fn put_fits(
     which: Which,
     ids: &[Option<WrittenId>],
     due: &Due,
+    entries: &[Owed],
     places: &mut Left,
     fits: &mut Vec<Option<Fit>>,
 ) -> Result<(), AllocError>
-    requires { IsFindable (slice_get due.now.entries) places.old }
-    ensures findable { OnOk result (IsFindable (slice_get due.now.entries) places.new) }
-    ensures fits { OnOk result ((left : List OwedValue) → IsLeftOf (slice_get due.now.entries) (places_of places.old) left →
-        IsLeftOf (slice_get due.now.entries) (places_of places.new) (left_of (ids_of which ids.now) left)
+    requires { IsFindable (slice_get entries.now) places.old }
+    ensures findable { OnOk result (IsFindable (slice_get entries.now) places.new) }
+    ensures fits { OnOk result ((left : List OwedValue) → IsLeftOf (slice_get entries.now) (places_of places.old) left →
+        IsLeftOf (slice_get entries.now) (places_of places.new) (left_of (ids_of which ids.now) left)
         × (fits.new.items ≡ fits.old.items ++ fits_of due.now (ids_of which ids.now) left)) }
 {
     for id in ids {
-        put_fit(which, id, due, places, fits)?;
+        put_fit(which, id, due, entries, places, fits)?;
     }
     Ok(())
 }
@@ -290,13 +350,14 @@ fn put_fit(
     which: Which,
     id: &Option<WrittenId>,
     due: &Due,
+    entries: &[Owed],
     places: &mut Left,
     fits: &mut Vec<Option<Fit>>,
 ) -> Result<(), AllocError>
-    requires { IsFindable (slice_get due.now.entries) places.old }
-    ensures findable { OnOk result (IsFindable (slice_get due.now.entries) places.new) }
-    ensures fits { OnOk result ((left : List OwedValue) → IsLeftOf (slice_get due.now.entries) (places_of places.old) left →
-        IsLeftOf (slice_get due.now.entries) (places_of places.new) (left_of (ids_of which (id.now ∷ [])) left)
+    requires { IsFindable (slice_get entries.now) places.old }
+    ensures findable { OnOk result (IsFindable (slice_get entries.now) places.new) }
+    ensures fits { OnOk result ((left : List OwedValue) → IsLeftOf (slice_get entries.now) (places_of places.old) left →
+        IsLeftOf (slice_get entries.now) (places_of places.new) (left_of (ids_of which (id.now ∷ [])) left)
         × (fits.new.items ≡ fits.old.items ++ fits_of due.now (ids_of which (id.now ∷ [])) left)) }
 {
     match id {
@@ -304,7 +365,7 @@ fn put_fit(
             if !which.is_of(id) {
                 return Ok(());
             }
-            let fit = fit_taken(id, due, places);
+            let fit = fit_taken(id, due, entries, places);
             fits.push(fit)?;
             Ok(())
         }
@@ -313,19 +374,29 @@ fn put_fit(
 }
 
 /// Takes the entry that an answer with this id takes of those that are left, and tells of it.
-fn fit_taken(id: &WrittenId, due: &Due, places: &mut Left) -> Option<Fit>
-    requires { IsFindable (slice_get due.now.entries) places.old }
-    ensures findable { IsFindable (slice_get due.now.entries) places.new }
-    ensures left { (left : List OwedValue) → IsLeftOf (slice_get due.now.entries) (places_of places.old) left →
-        IsLeftOf (slice_get due.now.entries) (places_of places.new) (left_after (taken_by id.now left) left) }
-    ensures fit { (left : List OwedValue) → IsLeftOf (slice_get due.now.entries) (places_of places.old) left →
+fn fit_taken(id: &WrittenId, due: &Due, entries: &[Owed], places: &mut Left) -> Option<Fit>
+    requires { IsFindable (slice_get entries.now) places.old }
+    ensures findable { IsFindable (slice_get entries.now) places.new }
+    ensures left { (left : List OwedValue) → IsLeftOf (slice_get entries.now) (places_of places.old) left →
+        IsLeftOf (slice_get entries.now) (places_of places.new) (left_after (taken_by id.now left) left) }
+    ensures fit { (left : List OwedValue) → IsLeftOf (slice_get entries.now) (places_of places.old) left →
         result ≡ option_and_then (λ place. option_map (fit_of due.now) (slice_get left place)) (taken_by id.now left) }
 {
-    match taken_by(id, due.entries(), places) {
-        Some(number) => match places.take(due.entries(), number) {
-            Some(place) => due.fit(place),
+    match taken_by(id, entries, places) {
+        Some(number) => match places.take(entries, number) {
+            Some(place) => fit_at(due, entries, place),
             None => None,
         },
+        None => None,
+    }
+}
+
+/// What is told of the entry at this place.
+fn fit_at(due: &Due, entries: &[Owed], place: usize) -> Option<Fit>
+    ensures { result ≡ option_map (fit_of due.now) (slice_get entries.now place) }
+{
+    match entries.get(place) {
+        Some(owed) => Some(due.fit_of(owed)),
         None => None,
     }
 }

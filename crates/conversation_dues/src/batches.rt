@@ -4,7 +4,8 @@ ghost use Rattle.std.specs.Prelude.{◌≡◌, true, false, is_some, option_map,
 ghost use Rattle.std.specs.List.{list_any};
 ghost use Rattle.std.specs.Option.{option_map_or, is_none};
 ghost use Rattle.conversation_dues.specs.Answered.{is_answered};
-ghost use Rattle.conversation_dues.specs.Found.{first_of, index_of, whole_if};
+ghost use Rattle.conversation_dues.specs.Found.{first_of, whole_if};
+ghost use Rattle.conversation_open.specs.Left.{index_of};
 ghost use Rattle.conversation_dues.specs.declared.batches.Answer.{Answer as AnswerValue};
 ghost use Rattle.conversation_open.specs.Open.{open_entries, contents_of, IsOpen};
 ghost use Rattle.conversation_ids.specs.OwedMarks.{due_has};
@@ -13,10 +14,10 @@ ghost use Rattle.conversation_rules.specs.Matching.{is_guess, left_batch_target}
 ghost use Rattle.conversation_rules.specs.Owed.{Due as DueValue};
 ghost use Rattle.number_windows.specs.Numbered.{at};
 
-use crate::arrays::{can_be_answered, is_just};
+use crate::arrays::{can_be_answered, is_just, is_just_due};
 use crate::targets::has_batch;
-use conversation_ids::{Due, mark_of, null_mark};
-use conversation_open::{Among, OpenContents};
+use conversation_ids::{mark_of, null_mark};
+use conversation_open::{Among, Due, OpenContents};
 use conversation_reading::WrittenId;
 use std::alloc::{AllocError, Global};
 
@@ -104,8 +105,8 @@ fn first_batch(
 ) -> Result<Option<u64>, AllocError>
     requires stands { IsOpen contents.now }
     requires named { list_any is_some ids.now ≡ true }
-    ensures { IfOk result (λ number. option_map (λ n. (n, 0)) number ≡
-        first_of (whole_if (is_answered answer ids.now)) (open_entries contents.now)) }
+    ensures { IfOk result (λ number. number ≡
+        option_map (λ found. found.0) (first_of (whole_if (is_answered answer ids.now)) (open_entries contents.now))) }
 {
     let mark = first_mark(ids);
     let mut after = 0;
@@ -143,13 +144,7 @@ fn is_answered(
     ensures { IfOk result (λ b. b ≡ is_answered answer ids.now due.now) }
 {
     match answer {
-        Answer::JustDue => {
-            if due.must_be_answered() {
-                is_just(alloc, due, ids)
-            } else {
-                Ok(false)
-            }
-        }
+        Answer::JustDue => is_just_due(alloc, due, ids),
         Answer::Just => is_just(alloc, due, ids),
         Answer::Possible => {
             let unnamed = ids.iter().filter(|id| id.is_none()).count();

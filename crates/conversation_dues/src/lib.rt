@@ -7,6 +7,5 @@ mod dues;
 mod settling;
 mod sought;
 mod targets;
-mod what_is_left;
 
 pub use dues::Dues;

@@ -3,7 +3,10 @@
 ghost use Rattle.std.specs.Prelude.{◌≡◌, Some, remove, is_some, option_map, IfOk, OnOk, OnErr};
 ghost use Rattle.conversation_dues.specs.Found.{target_at};
 ghost use Rattle.conversation_dues.specs.declared.targets.Place.TheVariants as places;
+ghost use Rattle.conversation_open.specs.Left.{index_of};
 ghost use Rattle.conversation_open.specs.Open.{open_entries, contents_of, IsOpen};
+ghost use Rattle.conversation_reading.specs.declared.entry.WrittenId.TheVariants.{Null};
+ghost use Rattle.conversation_rules.specs.declared.found.Target.TheVariants as targets;
 ghost use Rattle.conversation_rules.specs.Dues.{settled, found, unreadable_target, array_target, found_batch, settled_batch, array_fits};
 ghost use Rattle.number_windows.specs.Numbered.{at};
 ghost use Rattle.conversation_rules.specs.Matching.{named_target, null_target, parse_error_target};
@@ -11,6 +14,7 @@ ghost use Rattle.conversation_rules.specs.Matching.{named_target, null_target, p
 use crate::arrays::array_fits;
 use crate::batches::array_target;
 use crate::targets::{Place, named_target, null_target, parse_error_target, unreadable_target};
+use conversation_ids::Way;
 use conversation_open::OpenContents;
 use conversation_reading::WrittenId;
 use conversation_rules::{Fit, Found};
@@ -24,7 +28,7 @@ pub(crate) fn settle_named(contents: &mut OpenContents, id: &WrittenId) -> Optio
     ensures stands { IsOpen contents.new }
 {
     let target = named_target(contents, id);
-    settle(contents, target)
+    settle(contents, target, id)
 }
 
 pub(crate) fn settle_null(
@@ -39,7 +43,7 @@ pub(crate) fn settle_null(
     ensures stands { IsOpen contents.new }
 {
     let target = null_target(contents, says_invalid, is_unsure);
-    settle(contents, target)
+    settle(contents, target, &WrittenId::Null)
 }
 
 pub(crate) fn settle_parse_error(contents: &mut OpenContents, is_unsure: bool) -> Option<Found>
@@ -50,7 +54,7 @@ pub(crate) fn settle_parse_error(contents: &mut OpenContents, is_unsure: bool) -
     ensures stands { IsOpen contents.new }
 {
     let target = parse_error_target(contents, is_unsure);
-    settle(contents, target)
+    settle(contents, target, &WrittenId::Null)
 }
 
 pub(crate) fn settle_unreadable(contents: &mut OpenContents) -> bool
@@ -62,7 +66,7 @@ pub(crate) fn settle_unreadable(contents: &mut OpenContents) -> bool
 {
     let target = unreadable_target(contents);
     let is_there = target.is_some();
-    drop(settle(contents, target));
+    drop(settle(contents, target, &WrittenId::Null));
     is_there
 }
 
@@ -104,39 +108,51 @@ fn fits_at(
     }
 }
 
-fn settle(contents: &mut OpenContents, target: Option<Place>) -> Option<Found>
+fn settle(contents: &mut OpenContents, target: Option<Place>, id: &WrittenId) -> Option<Found>
     requires { IsOpen contents.old }
-    ensures found { result ≡ found (target_at (open_entries contents.old) target) (contents_of (open_entries contents.old)) }
+    ensures found { result ≡ found (target_at id.now (open_entries contents.old) target) (contents_of (open_entries contents.old)) }
     ensures settled { contents_of (open_entries contents.new) ≡
-        settled (target_at (open_entries contents.old) target) (contents_of (open_entries contents.old)) }
+        settled (target_at id.now (open_entries contents.old) target) (contents_of (open_entries contents.old)) }
     ensures stands { IsOpen contents.new }
 {
     match target {
-        Some(Place::EntryOf(number, place)) => settle_entry(contents, number, place),
-        Some(Place::WholeOf(number)) => settle_whole(contents, number),
+        Some(place) => settle_place(contents, place, id),
         None => None,
+    }
+}
+
+fn settle_place(contents: &mut OpenContents, place: Place, id: &WrittenId) -> Option<Found>
+    requires { IsOpen contents.old }
+    ensures found { result ≡ found (target_at id.now (open_entries contents.old) (Some place)) (contents_of (open_entries contents.old)) }
+    ensures settled { contents_of (open_entries contents.new) ≡
+        settled (target_at id.now (open_entries contents.old) (Some place)) (contents_of (open_entries contents.old)) }
+    ensures stands { IsOpen contents.new }
+{
+    match place {
+        Place::EntryOf(number, way) => settle_entry(contents, number, way, id),
+        Place::WholeOf(number) => settle_whole(contents, number),
     }
 }
 
 fn settle_whole(contents: &mut OpenContents, number: u64) -> Option<Found>
     requires { IsOpen contents.old }
-    ensures found { result ≡ found (target_at (open_entries contents.old) (Some (places.WholeOf number))) (contents_of (open_entries contents.old)) }
+    ensures found { result ≡ found (Some (targets.WholeOf (index_of number (open_entries contents.old)))) (contents_of (open_entries contents.old)) }
     ensures settled { contents_of (open_entries contents.new) ≡
-        settled (target_at (open_entries contents.old) (Some (places.WholeOf number))) (contents_of (open_entries contents.old)) }
+        settled (Some (targets.WholeOf (index_of number (open_entries contents.old)))) (contents_of (open_entries contents.old)) }
     ensures stands { IsOpen contents.new }
 {
     contents.remove(number);
     Some(Found::Whole)
 }
 
-fn settle_entry(contents: &mut OpenContents, number: u64, place: usize) -> Option<Found>
+fn settle_entry(contents: &mut OpenContents, number: u64, way: Way, id: &WrittenId) -> Option<Found>
     requires { IsOpen contents.old }
-    ensures found { result ≡ found (target_at (open_entries contents.old) (Some (places.EntryOf number place))) (contents_of (open_entries contents.old)) }
+    ensures found { result ≡ found (target_at id.now (open_entries contents.old) (Some (places.EntryOf number way))) (contents_of (open_entries contents.old)) }
     ensures settled { contents_of (open_entries contents.new) ≡
-        settled (target_at (open_entries contents.old) (Some (places.EntryOf number place))) (contents_of (open_entries contents.old)) }
+        settled (target_at id.now (open_entries contents.old) (Some (places.EntryOf number way))) (contents_of (open_entries contents.old)) }
     ensures stands { IsOpen contents.new }
 {
-    match contents.settle_entry(number, place) {
+    match contents.settle_first(number, way, id) {
         Some(fit) => Some(Found::Entry(fit)),
         None => None,
     }

@@ -1,8 +1,10 @@
 //! What is looked for among contents, and the oldest that has it.
 
-ghost use Rattle.std.specs.Prelude.{◌≡◌, ℕ, false, Some, None, is_some, option_and_then, if◌then◌else◌};
-ghost use Rattle.conversation_dues.specs.Found.{place_of, first_of};
-ghost use Rattle.conversation_open.specs.Open.{open_entries, among_has, IsOpen};
+ghost use Rattle.std.specs.Prelude.{◌≡◌, ◌<◌, Bool, false, None, is_some, MatchOption, option_and_then, option_map};
+ghost use Rattle.std.specs.List.{list_any};
+ghost use Rattle.std.specs.Option.{IfSome};
+ghost use Rattle.conversation_dues.specs.Found.{may_be_on, place_of, first_of};
+ghost use Rattle.conversation_open.specs.Open.{open_entries, is_among, is_due_by, IsOpen, IsNoneBehind, IsNoneBetween};
 ghost use Rattle.conversation_ids.specs.OwedMarks.{due_has, entry_has};
 ghost use Rattle.conversation_ids.specs.Ways.{fits};
 ghost use Rattle.conversation_reading.specs.declared.entry.WrittenId.{WrittenId as IdValue};
@@ -10,8 +12,8 @@ ghost use Rattle.conversation_rules.specs.Matching.{place_in};
 ghost use Rattle.conversation_rules.specs.Owed.{Due as DueValue, Owed as OwedValue};
 ghost use Rattle.number_windows.specs.Numbered.{at};
 
-use conversation_ids::{Due, Way, batch_mark, huge_mark, mark_of, null_mark, unreadable_mark};
-use conversation_open::{Among, OpenContents};
+use conversation_ids::{Way, batch_mark, huge_mark, mark_of, null_mark, unreadable_mark};
+use conversation_open::{Among, Due, OpenContents};
 use conversation_reading::WrittenId;
 
 #[derive(Clone, Copy)]
@@ -31,6 +33,30 @@ pub(crate) enum Sought {
     Batch,
 }
 
+/// Where it is looked for: among such contents, by a mark.
+#[derive(Clone, Copy)]
+pub(crate) enum Search {
+    /// On those with an entry that must be answered, and whose answer is expected to have an id of this mark.
+    Awaited(Among, u128),
+    /// On all that have it.
+    Any(Among, u128),
+}
+
+impl Search {
+    /// The next content behind `after` on which it may be.
+    fn next(self, contents: &OpenContents, after: u64) -> Option<u64>
+        requires { IsOpen contents.now }
+        ensures { MatchOption result
+            (IsNoneBehind (may_be_on self) after (open_entries contents.now))
+            (λ number. (after < number) × IsNoneBetween (may_be_on self) after number (open_entries contents.now)) }
+    {
+        match self {
+            Search::Awaited(among, mark) => contents.next_due(among, mark, after),
+            Search::Any(among, mark) => contents.next_with(among, mark, after),
+        }
+    }
+}
+
 impl Sought {
     /// An entry, in single contents or in batches.
     pub(crate) fn entry(batches: bool, way: Way) -> Sought
@@ -40,6 +66,29 @@ impl Sought {
             Sought::InBatch(way)
         } else {
             Sought::Single(way)
+        }
+    }
+
+    /// Where it is looked for.
+    fn search(self, id: &WrittenId) -> Search
+        ensures { (due : DueValue) → may_be_on result due ≡ false → place_of self id.now due ≡ None }
+    {
+        match self.awaited_mark(id) {
+            Some(mark) => Search::Awaited(self.among(), mark),
+            None => Search::Any(self.among(), self.mark(id)),
+        }
+    }
+
+    /// Where only what must be answered is looked for: the mark of the id that its answer is expected to have.
+    fn awaited_mark(self, id: &WrittenId) -> Option<u128>
+        ensures { IfSome result (λ mark. (due : DueValue) → list_any (is_due_by mark) due.entries ≡ false →
+            place_of self id.now due ≡ None) }
+    {
+        match self {
+            Sought::Single(way) => awaited_mark(way, id),
+            Sought::InBatch(way) => awaited_mark(way, id),
+            Sought::Asked | Sought::Cancelled | Sought::Unreadable | Sought::Huge | Sought::Batch =>
+                None,
         }
     }
 
@@ -60,8 +109,7 @@ impl Sought {
 
     /// Among which contents it is found.
     fn among(self) -> Among
-        ensures { (id : IdValue) (mark : ℕ) (due : DueValue) → (due_has mark due ≡ false → place_of self id due ≡ None) →
-            among_has result mark due ≡ false → place_of self id due ≡ None }
+        ensures { (id : IdValue) (due : DueValue) → is_among result due ≡ false → place_of self id due ≡ None }
     {
         match self {
             Sought::Single(_) => Among::Singles,
@@ -70,53 +118,57 @@ impl Sought {
         }
     }
 
-    /// Its place on a content: that of the entry, or 0.
-    fn place_in(self, id: &WrittenId, due: &Due) -> Option<usize>
-        ensures { result ≡ place_of self id.now due.now }
+    /// Whether it is on a content.
+    fn is_on(self, id: &WrittenId, due: &Due) -> bool
+        ensures { result ≡ is_some (place_of self id.now due.now) }
     {
         match self {
-            Sought::Single(way) => due.place_in(false, way, id),
-            Sought::InBatch(way) => due.place_in(true, way, id),
-            Sought::Asked => whole_if(due.has_request(id)),
-            Sought::Cancelled => whole_if(due.has_cancelled(id)),
-            Sought::Unreadable => whole_if(due.is_unreadable()),
-            Sought::Huge => whole_if(due.has_huge()),
-            Sought::Batch => whole_if(due.is_batch()),
+            Sought::Single(way) => due.has(false, way, id),
+            Sought::InBatch(way) => due.has(true, way, id),
+            Sought::Asked => due.has_request(id),
+            Sought::Cancelled => due.has_cancelled(id),
+            Sought::Unreadable => due.is_unreadable(),
+            Sought::Huge => due.has_huge(),
+            Sought::Batch => due.is_batch(),
         }
     }
 }
 
-/// The number of the oldest content with what is looked for, and its place there.
-pub(crate) fn first(contents: &OpenContents, sought: Sought, id: &WrittenId) -> Option<(u64, usize)>
+/// The number of the oldest content with what is looked for.
+pub(crate) fn first(contents: &OpenContents, sought: Sought, id: &WrittenId) -> Option<u64>
     requires { IsOpen contents.now }
-    ensures { result ≡ first_of (place_of sought id.now) (open_entries contents.now) }
+    ensures { result ≡ option_map (λ found. found.0) (first_of (place_of sought id.now) (open_entries contents.now)) }
 {
-    let mark = sought.mark(id);
+    let search = sought.search(id);
     let mut after = 0;
-    let among = sought.among();
-    while let Some(number) = contents.next_with(among, mark, after) {
-        if let Some(place) = place_at(contents, number, sought, id) {
-            return Some((number, place));
+    while let Some(number) = search.next(contents, after) {
+        if is_at(contents, number, sought, id) {
+            return Some(number);
         }
         after = number;
     }
     None
 }
 
-fn place_at(contents: &OpenContents, number: u64, sought: Sought, id: &WrittenId) -> Option<usize>
+fn is_at(contents: &OpenContents, number: u64, sought: Sought, id: &WrittenId) -> bool
     requires { IsOpen contents.now }
-    ensures { result ≡ option_and_then (place_of sought id.now) (at number (open_entries contents.now)) }
+    ensures { result ≡ is_some (option_and_then (place_of sought id.now) (at number (open_entries contents.now))) }
 {
     match contents.get(number) {
-        Some(due) => sought.place_in(id, due),
-        None => None,
+        Some(due) => sought.is_on(id, due),
+        None => false,
     }
 }
 
-fn whole_if(holds: bool) -> Option<usize>
-    ensures { result ≡ (if holds then Some 0 else None) }
+/// Where what fits in a way must be answered: the mark of the id that its answer is expected to have.
+fn awaited_mark(way: Way, id: &WrittenId) -> Option<u128>
+    ensures { IfSome result (λ mark. (batches : Bool) (due : DueValue) → list_any (is_due_by mark) due.entries ≡ false →
+        place_in batches (fits way id.now) due ≡ None) }
 {
-    if holds { Some(0) } else { None }
+    match way {
+        Way::Must => Some(mark_of(id)),
+        _ => None,
+    }
 }
 
 /// A mark that all entries have which fit in a way.

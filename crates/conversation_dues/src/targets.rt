@@ -5,6 +5,7 @@ ghost use Rattle.std.specs.List.{list_any};
 ghost use Rattle.conversation_dues.specs.Found.{target_at, whole_target};
 ghost use Rattle.conversation_open.specs.Open.{open_entries, contents_of, IsOpen};
 ghost use Rattle.conversation_ids.specs.Ways.{fits};
+ghost use Rattle.conversation_reading.specs.declared.entry.WrittenId.TheVariants.{Null};
 ghost use Rattle.conversation_rules.specs.Dues.{may_be_refused, unreadable_target};
 ghost use Rattle.conversation_rules.specs.Matching.{oldest, is_null_other, left_named_in, named_in, named_target, expects_null_in, null_in, null_target, parse_error_target};
 
@@ -16,17 +17,18 @@ use conversation_reading::WrittenId;
 /// What an answer is for, by the number of a content.
 #[derive(Clone, Copy)]
 pub(crate) enum Place {
-    EntryOf(u64, usize),
+    /// The first entry that fits in this way.
+    EntryOf(u64, Way),
     WholeOf(u64),
 }
 
 /// The oldest entry that fits, in single contents or in batches.
 fn oldest(contents: &OpenContents, batches: bool, way: Way, id: &WrittenId) -> Option<Place>
     requires { IsOpen contents.now }
-    ensures { oldest batches (fits way id.now) (contents_of (open_entries contents.now)) ≡ target_at (open_entries contents.now) result }
+    ensures { oldest batches (fits way id.now) (contents_of (open_entries contents.now)) ≡ target_at id.now (open_entries contents.now) result }
 {
     match first(contents, Sought::entry(batches, way), id) {
-        Some((number, place)) => Some(Place::EntryOf(number, place)),
+        Some(number) => Some(Place::EntryOf(number, way)),
         None => None,
     }
 }
@@ -34,10 +36,10 @@ fn oldest(contents: &OpenContents, batches: bool, way: Way, id: &WrittenId) -> O
 /// The oldest content that is such a one.
 fn oldest_whole(contents: &OpenContents, sought: Sought) -> Option<Place>
     requires { IsOpen contents.now }
-    ensures { target_at (open_entries contents.now) result ≡ whole_target sought (open_entries contents.now) }
+    ensures { target_at Null (open_entries contents.now) result ≡ whole_target sought (open_entries contents.now) }
 {
     match first(contents, sought, &WrittenId::Null) {
-        Some((number, _)) => Some(Place::WholeOf(number)),
+        Some(number) => Some(Place::WholeOf(number)),
         None => None,
     }
 }
@@ -45,7 +47,7 @@ fn oldest_whole(contents: &OpenContents, sought: Sought) -> Option<Place>
 /// What a single answer with an id that isn't null is for.
 pub(crate) fn named_target(contents: &OpenContents, id: &WrittenId) -> Option<Place>
     requires { IsOpen contents.now }
-    ensures { named_target id.now (contents_of (open_entries contents.now)) ≡ target_at (open_entries contents.now) result }
+    ensures { named_target id.now (contents_of (open_entries contents.now)) ≡ target_at id.now (open_entries contents.now) result }
 {
     match named_in(contents, false, id) {
         Some(target) => Some(target),
@@ -55,7 +57,7 @@ pub(crate) fn named_target(contents: &OpenContents, id: &WrittenId) -> Option<Pl
 
 fn named_in(contents: &OpenContents, batches: bool, id: &WrittenId) -> Option<Place>
     requires { IsOpen contents.now }
-    ensures { named_in batches id.now (contents_of (open_entries contents.now)) ≡ target_at (open_entries contents.now) result }
+    ensures { named_in batches id.now (contents_of (open_entries contents.now)) ≡ target_at id.now (open_entries contents.now) result }
 {
     match oldest(contents, batches, Way::Must, id) {
         Some(target) => Some(target),
@@ -66,7 +68,7 @@ fn named_in(contents: &OpenContents, batches: bool, id: &WrittenId) -> Option<Pl
 /// The same among what may be left.
 fn left_named_in(contents: &OpenContents, batches: bool, id: &WrittenId) -> Option<Place>
     requires { IsOpen contents.now }
-    ensures { left_named_in batches id.now (contents_of (open_entries contents.now)) ≡ target_at (open_entries contents.now) result }
+    ensures { left_named_in batches id.now (contents_of (open_entries contents.now)) ≡ target_at id.now (open_entries contents.now) result }
 {
     if let Some(target) = oldest(contents, batches, Way::Asks, id) {
         return Some(target);
@@ -84,7 +86,7 @@ pub(crate) fn null_target(
     is_unsure: bool,
 ) -> Option<Place>
     requires { IsOpen contents.now }
-    ensures { null_target says_invalid is_unsure (contents_of (open_entries contents.now)) ≡ target_at (open_entries contents.now) result }
+    ensures { null_target says_invalid is_unsure (contents_of (open_entries contents.now)) ≡ target_at Null (open_entries contents.now) result }
 {
     if is_unsure {
         return expects_null_in(contents, says_invalid, false);
@@ -97,7 +99,7 @@ pub(crate) fn null_target(
 
 fn null_in(contents: &OpenContents, says_invalid: bool, batches: bool) -> Option<Place>
     requires { IsOpen contents.now }
-    ensures { null_in says_invalid batches (contents_of (open_entries contents.now)) ≡ target_at (open_entries contents.now) result }
+    ensures { null_in says_invalid batches (contents_of (open_entries contents.now)) ≡ target_at Null (open_entries contents.now) result }
 {
     match expects_null_in(contents, says_invalid, batches) {
         Some(target) => Some(target),
@@ -107,7 +109,7 @@ fn null_in(contents: &OpenContents, says_invalid: bool, batches: bool) -> Option
 
 fn expects_null_in(contents: &OpenContents, says_invalid: bool, batches: bool) -> Option<Place>
     requires { IsOpen contents.now }
-    ensures { expects_null_in says_invalid batches (contents_of (open_entries contents.now)) ≡ target_at (open_entries contents.now) result }
+    ensures { expects_null_in says_invalid batches (contents_of (open_entries contents.now)) ≡ target_at Null (open_entries contents.now) result }
 {
     let (first, second) = if says_invalid {
         (Way::ExpectsNull, Way::AsksWithNull)
@@ -123,7 +125,7 @@ fn expects_null_in(contents: &OpenContents, says_invalid: bool, batches: bool) -
 /// What a single -32700 with the id null is for.
 pub(crate) fn parse_error_target(contents: &OpenContents, is_unsure: bool) -> Option<Place>
     requires { IsOpen contents.now }
-    ensures { parse_error_target is_unsure (contents_of (open_entries contents.now)) ≡ target_at (open_entries contents.now) result }
+    ensures { parse_error_target is_unsure (contents_of (open_entries contents.now)) ≡ target_at Null (open_entries contents.now) result }
 {
     if let Some(target) = unreadable_target(contents) {
         return Some(target);
@@ -143,7 +145,7 @@ pub(crate) fn parse_error_target(contents: &OpenContents, is_unsure: bool) -> Op
 /// The oldest that is invalid, where no content may be refused whole.
 fn named_other(contents: &OpenContents, is_unsure: bool) -> Option<Place>
     requires { IsOpen contents.now }
-    ensures { (if is_unsure then None else oldest false is_null_other (contents_of (open_entries contents.now))) ≡ target_at (open_entries contents.now) result }
+    ensures { (if is_unsure then None else oldest false is_null_other (contents_of (open_entries contents.now))) ≡ target_at Null (open_entries contents.now) result }
 {
     if is_unsure {
         None
@@ -155,7 +157,7 @@ fn named_other(contents: &OpenContents, is_unsure: bool) -> Option<Place>
 /// The oldest content that couldn't be read.
 pub(crate) fn unreadable_target(contents: &OpenContents) -> Option<Place>
     requires { IsOpen contents.now }
-    ensures { unreadable_target (contents_of (open_entries contents.now)) ≡ target_at (open_entries contents.now) result }
+    ensures { unreadable_target (contents_of (open_entries contents.now)) ≡ target_at Null (open_entries contents.now) result }
 {
     oldest_whole(contents, Sought::Unreadable)
 }

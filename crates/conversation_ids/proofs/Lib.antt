@@ -1,4 +1,3 @@
-mod OwedSteps
 pub mod Having
 pub mod Numbers
 pub mod OneMark

@@ -1,3 +1,6 @@
+ghost use Rattle.std.specs.Prelude.{◌≡◌};
+ghost use Rattle.conversation_ids.specs.OwedMarks.{is_mark};
+
 /// The marks by which an entry is found, or a part of them.
 #[derive(Clone, Copy)]
 pub struct EntryMarks {
@@ -11,7 +14,7 @@ pub struct EntryMarks {
 }
 
 impl EntryMarks {
-    ghost use Rattle.std.specs.Prelude.{◌≡◌, Some, None};
+    ghost use Rattle.std.specs.Prelude.{Some, None};
 
     /// That of a request alone.
     pub fn of_request(mark: u128) -> EntryMarks
@@ -23,5 +26,15 @@ impl EntryMarks {
             null: None,
             request: Some(mark),
         }
+    }
+}
+
+/// Whether it is this mark.
+pub fn is_mark(own: Option<u128>, mark: u128) -> bool
+    ensures { result ≡ is_mark own mark }
+{
+    match own {
+        Some(own) => own == mark,
+        None => false,
     }
 }

@@ -10,7 +10,7 @@ ghost use Rattle.conversation_rules.specs.Matching.{is_due_for, is_request_for, 
 ghost use Rattle.conversation_rules.specs.Owed.{has_id, is_expected, may_have, request_owed, may_be_left, owed_on, empty_array_owed, only_params, expected_without_params};
 ghost use Rattle.conversation_rules.specs.Protocols.{may_leave_null};
 
-use crate::entry_marks::EntryMarks;
+use crate::entry_marks::{EntryMarks, is_mark};
 use crate::ids::{is_null, is_odd, same_id};
 use crate::marks::{mark_of, null_mark};
 use conversation_reading::{Entry, Faults, First, Kind, WrittenId};
@@ -360,15 +360,6 @@ impl Owed {
             self.is_cancelled = true;
             self.must = self.must && !settles;
         }
-    }
-}
-
-fn is_mark(own: Option<u128>, mark: u128) -> bool
-    ensures { result ≡ option_map_or (λ own. own == mark) own false }
-{
-    match own {
-        Some(own) => own == mark,
-        None => false,
     }
 }
 

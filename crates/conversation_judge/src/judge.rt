@@ -134,7 +134,7 @@ impl Judge {
     {
         let finding = self.findings.pop_front();
         // The room of many findings isn't kept for those to come: a side that breaks a rule in each message is rare.
-        if self.findings.is_empty() {
+        if finding.is_some() && self.findings.is_empty() {
             self.findings = VecDeque::new(self.alloc);
         }
         finding

@@ -83,33 +83,33 @@ taken_off n f (e ∷ es) = taken_by (n == e.0) f e (without n (changed_at n f es
 
 -- ---- those behind a number
 
-pub behind_none : (es : List (ℕ × Due)) → Above 0 es → behind 0 es ≡ es
+pub behind_none : {X : Type 0} (es : List (ℕ × X)) → Above 0 es → behind 0 es ≡ es
 behind_none [] above = refl
 behind_none (e ∷ es) above =
     ap (λ b. cond b (e ∷ behind 0 es) (behind 0 es)) (lt-ltb 0 e.0 above.0) ∙ ap (λ xs. e ∷ xs) (behind_none es above.1)
 
-none_step : (b : Bool) (e : ℕ × Due) (o : Option (ℕ × Due)) (rest : List (ℕ × Due)) → None ≡ option_map (λ x. x.0) (cond b (Some e) o) → (None ≡ option_map (λ x. x.0) o → rest ≡ []) → cond b (e ∷ rest) rest ≡ []
+none_step : {X : Type 0} (b : Bool) (e : ℕ × X) (o : Option (ℕ × X)) (rest : List (ℕ × X)) → None ≡ option_map (λ x. x.0) (cond b (Some e) o) → (None ≡ option_map (λ x. x.0) o → rest ≡ []) → cond b (e ∷ rest) rest ≡ []
 none_step true e o rest none is = cc
 none_step false e o rest none is = is none
 
-pub behind_last : (n : ℕ) (es : List (ℕ × Due)) → None ≡ next_number n es → behind n es ≡ []
+pub behind_last : {X : Type 0} (n : ℕ) (es : List (ℕ × X)) → None ≡ next_number n es → behind n es ≡ []
 behind_last n [] none = refl
 behind_last n (e ∷ es) none = none_step (nat_lt n e.0) e (find (λ x. nat_lt n x.0) es) (behind n es) none (λ rest. behind_last n es rest)
 
-all_behind : (n : ℕ) (es : List (ℕ × Due)) → Above n es → behind n es ≡ es
+all_behind : {X : Type 0} (n : ℕ) (es : List (ℕ × X)) → Above n es → behind n es ≡ es
 all_behind n [] above = refl
 all_behind n (e ∷ es) above = ap (λ b. cond b (e ∷ behind n es) (behind n es)) (lt-ltb n e.0 above.0) ∙ ap (λ xs. e ∷ xs) (all_behind n es above.1)
 
-above_more : (m n : ℕ) (es : List (ℕ × Due)) → m ≤ n → Above n es → Above m es
+above_more : {X : Type 0} (m n : ℕ) (es : List (ℕ × X)) → m ≤ n → Above n es → Above m es
 above_more m n [] le above = tt
 above_more m n (e ∷ es) le above = (let over : n < e.0 = above.0 in omega arith, above_more m n es le above.1)
 
-next_step : (after number : ℕ) (b : Bool) (e : ℕ × Due) (o : Option (ℕ × Due)) → nat_lt after e.0 ≡ b → Some number ≡ option_map (λ x. x.0) (cond b (Some e) o) → (Some number ≡ option_map (λ x. x.0) o → after < number) → after < number
+next_step : {X : Type 0} (after number : ℕ) (b : Bool) (e : ℕ × X) (o : Option (ℕ × X)) → nat_lt after e.0 ≡ b → Some number ≡ option_map (λ x. x.0) (cond b (Some e) o) → (Some number ≡ option_map (λ x. x.0) o → after < number) → after < number
 next_step after number true e o lt is rest = let same : number ≡ e.0 = cc in let less : after < e.0 = ltb-true after e.0 lt in omega arith
 next_step after number false e o lt is rest = rest is
 
 -- the next number is greater
-pub next_above : (after number : ℕ) (es : List (ℕ × Due)) → Some number ≡ next_number after es → after < number
+pub next_above : {X : Type 0} (after number : ℕ) (es : List (ℕ × X)) → Some number ≡ next_number after es → after < number
 next_above after number [] is = cc
 next_above after number (e ∷ es) is = next_step after number (nat_lt after e.0) e (find (λ x. nat_lt after x.0) es) refl is (λ rest. next_above after number es rest)
 
@@ -137,11 +137,11 @@ next_none after n x (e ∷ es) none over there = from (nat_lt after e.0) refl no
     from false lt it false same found rest = rest it found
 
 -- the next one, and those behind it
-pub behind_next : (after number : ℕ) (due : Due) (es : List (ℕ × Due)) → Ascending es → Some number ≡ next_number after es → at number es ≡ Some due → behind after es ≡ (number, due) ∷ behind number es
+pub behind_next : {X : Type 0} (after number : ℕ) (due : X) (es : List (ℕ × X)) → Ascending es → Some number ≡ next_number after es → at number es ≡ Some due → behind after es ≡ (number, due) ∷ behind number es
 behind_next after number due [] order is there = cc
 behind_next after number due (e ∷ es) order is there = from (nat_lt after e.0) refl is (λ it found. behind_next after number due es order.1 it found)
   where
-    unwrapped : {a b : Due} → Some a ≡ Some b → a ≡ b
+    unwrapped : {Y : Type 0} {a b : Y} → Some a ≡ Some b → a ≡ b
     unwrapped is = cc
 
     from : (b : Bool) → nat_lt after e.0 ≡ b → Some number ≡ option_map (λ x. x.0) (cond b (Some e) (find (λ x. nat_lt after x.0) es)) →

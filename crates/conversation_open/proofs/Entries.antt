@@ -143,7 +143,7 @@ lost_cancelled mark settles id due holds = any_lost mark settles id due.entries 
 
 -- ---- what isn't found by a mark isn't changed by a cancel of an id with that
 
-same_found : (id : WrittenId) (e : Option WrittenId) → option_map_or (same_id id) e false ≡ true → has_mark (mark_of id) e ≡ true
+pub same_found : (id : WrittenId) (e : Option WrittenId) → option_map_or (same_id id) e false ≡ true → has_mark (mark_of id) e ≡ true
 same_found id None same = same
 same_found id (Some other) same = eq-eqb (mark_of other) (mark_of id) (sym (one_mark id other same))
 
@@ -183,7 +183,7 @@ same_owed c m owed is seen = (λ i. record owed { is_cancelled = (sym seen ∙ s
     and_true true = refl
     and_true false = refl
 
-seen_by : (r c x : Bool) → (r && (not c && x)) ≡ false → r ≡ true → x ≡ true → c ≡ true
+pub seen_by : (r c x : Bool) → (r && (not c && x)) ≡ false → r ≡ true → x ≡ true → c ≡ true
 seen_by true true x none is has = refl
 seen_by true false x none is has = absurd (let e : true ≡ false = sym has ∙ none in cc)
 seen_by false c x none is has = absurd (let e : false ≡ true = is in cc)

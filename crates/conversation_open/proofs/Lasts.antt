@@ -117,7 +117,7 @@ pub first_none : (es : List (ℕ × Due)) → None ≡ first_number es → None 
 first_none [] is = refl
 first_none (e ∷ es) is = cc
 
-there_by : (n : ℕ) (e : ℕ × Due) (es : List (ℕ × Due)) (b : Bool) → (after : ℕ) → Some n ≡ option_map (λ x. x.0) (cond b (Some e) (find (λ x. nat_lt after x.0) es)) →
+there_by : {X : Type 0} (n : ℕ) (e : ℕ × X) (es : List (ℕ × X)) (b : Bool) → (after : ℕ) → Some n ≡ option_map (λ x. x.0) (cond b (Some e) (find (λ x. nat_lt after x.0) es)) →
     (Some n ≡ next_number after es → is_some (at n es) ≡ true) → is_some (at n (e ∷ es)) ≡ true
 there_by n e es true after is rest = let same : n ≡ e.0 = cc in ap (λ b. is_some (cond b (Some e.1) (at n es))) (eq-eqb n e.0 same)
 there_by n e es false after is rest = later (n == e.0) (rest is)
@@ -126,6 +126,6 @@ there_by n e es false after is rest = later (n == e.0) (rest is)
     later true it = refl
     later false it = it
 
-pub next_there : (after n : ℕ) (es : List (ℕ × Due)) → Some n ≡ next_number after es → is_some (at n es) ≡ true
+pub next_there : {X : Type 0} (after n : ℕ) (es : List (ℕ × X)) → Some n ≡ next_number after es → is_some (at n es) ≡ true
 next_there after n [] is = cc
 next_there after n (e ∷ es) is = there_by n e es (nat_lt after e.0) after is (λ rest. next_there after n es rest)

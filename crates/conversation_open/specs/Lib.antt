@@ -1,3 +1,6 @@
+pub mod Entries
+pub mod Left
+pub mod Lending
 pub mod Marked
 pub mod Open
 pub mod Within

@@ -1,14 +1,17 @@
 -- Contents on which something is owed, by numbers that ascend, and their index.
-use Rattle.std.specs.Prelude.{ℕ, suc, ◌≡◌, ◌<◌, ◌==◌, ◌&&◌, ◌++◌, not, nat_lt, nat_le, length, remove, List, [], ◌∷◌, map, filter, Bool, true, false, Option, Some, None, if◌then◌else◌}
+use Rattle.std.specs.Prelude.{ℕ, suc, ◌≡◌, ◌<◌, ◌==◌, ◌&&◌, ◌||◌, ◌++◌, not, nat_lt, nat_le, length, remove, slice_get, List, [], ◌∷◌, map, filter, Bool, true, false, Option, Some, None, if◌then◌else◌}
+use Rattle.std.specs.List.{list_all, list_any, position_or_len}
 use Rattle.std.specs.Option.{option_map_or}
 use Rattle.conversation_open.specs.Marked.{has_number}
 use Rattle.conversation_open.specs.declared.among.Among.{Among}
 use Rattle.conversation_open.specs.declared.among.Among.TheVariants.{Singles, Batches, All}
 use Rattle.conversation_open.specs.declared.index.Index.{Index}
+use Rattle.conversation_open.specs.declared.marked_contents.MarkedContents.{MarkedContents}
 use Rattle.conversation_open.specs.declared.numbers_by_mark.NumbersByMark.{NumbersByMark}
 use Rattle.conversation_open.specs.declared.open_contents.OpenContents.{OpenContents}
-use Rattle.conversation_ids.specs.OwedMarks.{due_has, uncancelled_has}
-use Rattle.conversation_rules.specs.Dues.{is_open, unanswered_of}
+use Rattle.conversation_open.specs.declared.taken.Settled.{Settled}
+use Rattle.conversation_ids.specs.OwedMarks.{due_has, entry_has, has_mark, is_mark, marks_have, request_has, uncancelled_has}
+use Rattle.conversation_rules.specs.Dues.{fit_of, is_open, unanswered_of}
 use Rattle.conversation_rules.specs.Owed.{Owed, Due}
 use Rattle.conversation_rules.specs.declared.found.Unanswered.{Unanswered}
 use Rattle.number_windows.specs.Numbered.{at, without, changed_at, Above, Below}
@@ -27,22 +30,50 @@ among_has Singles mark due = not due.is_batch && due_has mark due
 among_has Batches mark due = due.is_batch && due_has mark due
 among_has All mark due = due_has mark due
 
+-- it is one of these
+abbrev pub is_among : Among → Due → Bool
+is_among Singles due = not due.is_batch
+is_among Batches due = due.is_batch
+is_among All due = true
+
+-- it must be answered, and its answer is expected to have an id of this mark
+abbrev pub is_due_by : ℕ → Owed → Bool
+is_due_by mark owed = owed.must && has_mark mark owed.expected
+
+-- it is one of these, and such an entry is open on it
+abbrev pub among_is_due : Among → ℕ → Due → Bool
+among_is_due among mark due = is_among among due && list_any (is_due_by mark) due.entries
+
+-- where it must be answered it is a request that no cancel has reached
+abbrev pub is_uncancelled_if_due : Owed → Bool
+is_uncancelled_if_due owed = not owed.must || (owed.is_request && not owed.is_cancelled)
+
+-- all that must be answered of these contents
+abbrev pub AreUncancelled : List (ℕ × Due) → Type 0
+AreUncancelled entries = (n : ℕ) (due : Due) → at n entries ≡ Some due → list_all is_uncancelled_if_due due.entries ≡ true
+
 -- under each mark just the contents stand that have it
 abbrev pub StandAs : (ℕ → Due → Bool) → NumbersByMark → List (ℕ × Due) → Type 0
 StandAs has marks entries = (mark number : ℕ) → has_number marks mark number ≡ option_map_or (has mark) (at number entries) false
 
+-- the contents of one kind
+pub record AreMarked (is_one : Due → Bool) (contents : MarkedContents) (entries : List (ℕ × Due)) : Type 0 where
+  pub all : StandAs (λ mark due. is_one due && due_has mark due) contents.all entries
+  pub uncancelled : StandAs (λ mark due. is_one due && uncancelled_has mark due) contents.uncancelled entries
+
 -- the index has each content under its marks, and nothing else
 pub record IsIndexed (index : Index) (entries : List (ℕ × Due)) : Type 0 where
-  pub singles : StandAs (among_has Singles) index.singles entries
-  pub batches : StandAs (among_has Batches) index.batches entries
-  pub uncancelled : StandAs uncancelled_has index.uncancelled entries
+  pub singles : AreMarked (λ due. not due.is_batch) index.singles entries
+  pub batches : AreMarked (λ due. due.is_batch) index.batches entries
 
--- numbers begin with 1 and ascend, and none is above the last that was given
+-- Numbers begin with 1 and ascend, and none is above the last that was given. Where the flag says so, no cancel has
+-- reached what must be answered.
 pub record IsOpen (contents : OpenContents) : Type 0 where
   pub window : IsWindow contents.dues
   pub above : Above 0 (open_entries contents)
   pub below : Below (suc contents.last) (open_entries contents)
   pub indexed : IsIndexed contents.index (open_entries contents)
+  pub uncancelled : contents.due_are_uncancelled ≡ true → AreUncancelled (open_entries contents)
 
 -- no such content stands behind a number, up to another one
 abbrev pub IsNoneBetween : (Due → Bool) → ℕ → ℕ → List (ℕ × Due) → Type 0
@@ -78,6 +109,29 @@ and_removed place due = record due { entries = remove due.entries place }
 abbrev pub is_empty : Due → Bool
 is_empty due = length due.entries == 0
 
+-- the place of the first entry of a content that passes a test, or behind all of them
+abbrev pub place_at : (Owed → Bool) → Option Due → ℕ
+place_at passes due = option_map_or (λ due. position_or_len passes due.entries) due 0
+
+abbrev pub owed_at : ℕ → Due → Option Owed
+owed_at place due = slice_get due.entries place
+
+-- what is told of an entry that is taken off
+pub record IsSettled (due : Due) (place : ℕ) (settled : Settled) : Type 0 where
+  pub owed : Owed
+  pub there : owed_at place due ≡ Some owed
+  pub fit : settled.fit ≡ fit_of due owed
+  pub entry : (mark : ℕ) → marks_have settled.marks mark ≡ entry_has mark owed
+  pub request : (mark : ℕ) → is_mark settled.marks.request mark ≡ request_has mark owed
+  pub last : settled.is_last ≡ is_empty (and_removed place due)
+
+-- of a content, or of none
+abbrev pub IsSettledAt : Option Due → ℕ → Option Settled → Type 0
+IsSettledAt None place None = Unit {0}
+IsSettledAt None place (Some settled) = ⊥
+IsSettledAt (Some due) place None = owed_at place due ≡ None
+IsSettledAt (Some due) place (Some settled) = IsSettled due place settled
+
 -- a content goes once the last of its entries does
 abbrev pub settled_at : ℕ → ℕ → List (ℕ × Due) → List (ℕ × Due)
 settled_at number place entries =
@@ -89,7 +143,7 @@ abbrev pub changed_up_to : ℕ → (Due → Due) → List (ℕ × Due) → List 
 changed_up_to number change entries = map (λ entry. (entry.0, (if nat_le entry.0 number then change entry.1 else entry.1))) entries
 
 -- those behind a number
-abbrev pub behind : ℕ → List (ℕ × Due) → List (ℕ × Due)
+abbrev pub behind : {X : Type 0} → ℕ → List (ℕ × X) → List (ℕ × X)
 behind number entries = filter (λ entry. nat_lt number entry.0) entries
 
 -- what must be answered of a content, and isn't

@@ -1,12 +1,15 @@
 //! What is owed on a content that stands in a window. Its own is put back in the place of a stand-in, which takes no memory.
 
-ghost use Rattle.std.specs.Prelude.{◌≡◌, OnOk, OnErr, slice_get, option_and_then};
-ghost use Rattle.conversation_open.specs.Open.{and_owed, and_removed};
+ghost use Rattle.std.specs.Prelude.{◌≡◌, OnOk, OnErr};
+ghost use Rattle.conversation_ids.specs.Ways.{fits};
+ghost use Rattle.conversation_open.specs.Open.{IsSettledAt, and_owed, and_removed, place_at};
 ghost use Rattle.conversation_rules.specs.Dues.{cancelled_in};
 ghost use Rattle.number_windows.specs.Numbered.{at, changed_at};
 ghost use Rattle.number_windows.specs.Windows.{window_entries, IsWindow};
 
-use conversation_ids::{Due, Owed};
+use crate::due::Due;
+use crate::taken::Settled;
+use conversation_ids::{Owed, Way};
 use conversation_reading::WrittenId;
 use number_windows::NumberWindow;
 use std::alloc::{AllocError, Global};
@@ -33,23 +36,26 @@ pub(crate) fn push_at(
     }
 }
 
-/// Takes an entry off a content, and answers it.
+/// Takes the first entry off a content that fits, and tells of it.
 pub(crate) fn take_at(
     alloc: Global,
     dues: &mut NumberWindow<Due>,
     number: u64,
-    place: usize,
-) -> Option<Owed>
+    way: Way,
+    id: &WrittenId,
+) -> Option<Settled>
     requires { IsWindow dues.old }
-    ensures entry { result ≡ option_and_then (λ due. slice_get due.entries place) (at number (window_entries dues.old)) }
-    ensures entries { window_entries dues.new ≡ changed_at number (and_removed place) (window_entries dues.old) }
+    ensures settled { IsSettledAt (at number (window_entries dues.old))
+        (place_at (fits way id.now) (at number (window_entries dues.old))) result }
+    ensures entries { window_entries dues.new ≡
+        changed_at number (and_removed (place_at (fits way id.now) (at number (window_entries dues.old)))) (window_entries dues.old) }
     ensures window { IsWindow dues.new }
 {
     match dues.replace(number, stand_in(alloc)) {
         Ok(mut due) => {
-            let owed = due.take(place);
+            let settled = due.take_first(alloc, way, id);
             drop(dues.replace(number, due));
-            owed
+            settled
         }
         Err(_) => None,
     }

@@ -1,78 +1,67 @@
 //! By which contents are found. Those that are no batches and batches stand apart, so that the ones aren't looked through
-//! where the others are asked for; and so do those with a request whose cancel wasn't seen, since each cancel looks for
-//! these.
+//! where the others are asked for.
 
 ghost use Rattle.std.specs.Prelude.{◌≡◌, ◌<◌, ◌&&◌, ℕ, not, false, OnOk, MatchOption};
+ghost use Rattle.std.specs.Borrow.{sem};
 ghost use Rattle.conversation_ids.specs.OwedMarks.{content_has, due_has, is_mark, marks_have, uncancelled_has};
-ghost use Rattle.conversation_open.specs.Marked.{has_among, has_number, earlier_of, KeepsAll, IsAllWithout, IsNotedAs, IsSameAllBut};
+ghost use Rattle.conversation_open.specs.Lending.{LendsKind};
+ghost use Rattle.conversation_open.specs.Marked.{has_among, has_number, earlier_of, of_kind, KeepsBoth, IsBothWithout, IsNotedAs, IsSameBothBut};
 
 use crate::among::Among;
-use crate::marking;
-use crate::numbers_by_mark::NumbersByMark;
-use conversation_ids::{Due, EntryMarks};
+use crate::due::Due;
+use crate::marked_contents::{MarkedContents, Which};
+use conversation_ids::EntryMarks;
 use std::alloc::{AllocError, Global};
 
 #[derive(Drop)]
 pub(crate) struct Index {
-    singles: NumbersByMark,
-    batches: NumbersByMark,
-    uncancelled: NumbersByMark,
+    singles: MarkedContents,
+    batches: MarkedContents,
 }
 
 impl Index {
     /// Takes no memory.
     pub(crate) fn new(alloc: Global) -> Index
-        ensures singles { (mark number : ℕ) → has_number result.singles mark number ≡ false }
-        ensures batches { (mark number : ℕ) → has_number result.batches mark number ≡ false }
-        ensures uncancelled { (mark number : ℕ) → has_number result.uncancelled mark number ≡ false }
+        ensures singles { (mark number : ℕ) → has_number result.singles.all mark number ≡ false }
+        ensures batches { (mark number : ℕ) → has_number result.batches.all mark number ≡ false }
+        ensures uncancelled_singles { (mark number : ℕ) → has_number result.singles.uncancelled mark number ≡ false }
+        ensures uncancelled_batches { (mark number : ℕ) → has_number result.batches.uncancelled mark number ≡ false }
     {
         Index {
-            singles: NumbersByMark::new(alloc),
-            batches: NumbersByMark::new(alloc),
-            uncancelled: NumbersByMark::new(alloc),
+            singles: MarkedContents::new(alloc),
+            batches: MarkedContents::new(alloc),
         }
     }
 
     /// The least number of this mark above `after`.
-    pub(crate) fn next(&self, among: Among, mark: u128, after: u64) -> Option<u64>
+    pub(crate) fn next(&self, among: Among, which: Which, mark: u128, after: u64) -> Option<u64>
         ensures { MatchOption result
-            ((n : ℕ) → after < n → has_among among self.now mark n ≡ false)
-            (λ number. (after < number) × ((n : ℕ) → after < n → n < number → has_among among self.now mark n ≡ false)) }
+            ((n : ℕ) → after < n → has_among among which self.now mark n ≡ false)
+            (λ number. (after < number) ×
+            ((n : ℕ) → after < n → n < number → has_among among which self.now mark n ≡ false)) }
     {
         match among {
-            Among::Singles => self.singles.next(mark, after),
-            Among::Batches => self.batches.next(mark, after),
+            Among::Singles => self.singles.next(which, mark, after),
+            Among::Batches => self.batches.next(which, mark, after),
             Among::All => {
                 earlier(
-                    self.singles.next(mark, after),
-                    self.batches.next(mark, after),
+                    self.singles.next(which, mark, after),
+                    self.batches.next(which, mark, after),
                 )
             }
         }
     }
 
-    /// The same of those with a request whose cancel wasn't seen.
-    pub(crate) fn next_uncancelled(&self, mark: u128, after: u64) -> Option<u64>
-        ensures { MatchOption result
-            ((n : ℕ) → after < n → has_number self.now.uncancelled mark n ≡ false)
-            (λ number. (after < number) × ((n : ℕ) → after < n → n < number → has_number self.now.uncancelled mark n ≡ false)) }
-    {
-        self.uncancelled.next(mark, after)
-    }
-
     /// Notes a content, whatever its entries are. On an error it may stand under some of its marks.
     pub(crate) fn note_content(&mut self, due: &Due, number: u64) -> Result<(), AllocError>
         ensures noted { OnOk result
-            (IsNotedAs due.now.is_batch (λ mark. content_has mark due.now) (λ mark. false) number self.new) }
-        ensures kept { KeepsAll self.new self.old }
-        ensures others { IsSameAllBut due.now.is_batch (λ mark. content_has mark due.now) (λ mark. false) number
-            self.new self.old }
+            (IsNotedAs (λ mark. content_has mark due.now) (λ mark. false) number (of_kind due.now.is_batch self.new)) }
+        ensures kept { KeepsBoth (of_kind due.now.is_batch self.new) (of_kind due.now.is_batch self.old) }
+        ensures others { IsSameBothBut (λ mark. content_has mark due.now) (λ mark. false) number
+            (of_kind due.now.is_batch self.new) (of_kind due.now.is_batch self.old) }
+        ensures other_kind { of_kind (not due.now.is_batch) self.new ≡ of_kind (not due.now.is_batch) self.old }
     {
-        if due.is_batch() {
-            marking::note_content(&mut self.batches, due, number)
-        } else {
-            marking::note_content(&mut self.singles, due, number)
-        }
+        self.kind(due.is_batch()).note_content(due, number)
     }
 
     /// Notes an entry of a content. On an error that may stand under some of these marks.
@@ -83,41 +72,43 @@ impl Index {
         number: u64,
     ) -> Result<(), AllocError>
         ensures noted { OnOk result
-            (IsNotedAs is_batch (marks_have entry.now) (is_mark entry.now.request) number self.new) }
-        ensures kept { KeepsAll self.new self.old }
-        ensures others { IsSameAllBut is_batch (marks_have entry.now) (is_mark entry.now.request) number
-            self.new self.old }
+            (IsNotedAs (marks_have entry.now) (is_mark entry.now.request) number (of_kind is_batch self.new)) }
+        ensures kept { KeepsBoth (of_kind is_batch self.new) (of_kind is_batch self.old) }
+        ensures others { IsSameBothBut (marks_have entry.now) (is_mark entry.now.request) number
+            (of_kind is_batch self.new) (of_kind is_batch self.old) }
+        ensures other_kind { of_kind (not is_batch) self.new ≡ of_kind (not is_batch) self.old }
     {
-        marking::note_some(entry.request, &mut self.uncancelled, number)?;
-        if is_batch {
-            marking::note_entry(&mut self.batches, entry, number)
-        } else {
-            marking::note_entry(&mut self.singles, entry, number)
-        }
+        self.kind(is_batch).note_entry(entry, number)
     }
 
     /// Forgets a content under the marks of an entry that it has no longer, as far as it isn't found by them still.
     pub(crate) fn forget_entry(&mut self, entry: &EntryMarks, due: &Due, number: u64)
-        ensures { IsAllWithout due.now.is_batch (λ mark. marks_have entry.now mark && not (due_has mark due.now))
-            (λ mark. is_mark entry.now.request mark && not (uncancelled_has mark due.now)) number self.new self.old }
+        ensures here { IsBothWithout (λ mark. marks_have entry.now mark && not (due_has mark due.now))
+            (λ mark. is_mark entry.now.request mark && not (uncancelled_has mark due.now)) number
+            (of_kind due.now.is_batch self.new) (of_kind due.now.is_batch self.old) }
+        ensures other_kind { of_kind (not due.now.is_batch) self.new ≡ of_kind (not due.now.is_batch) self.old }
     {
-        marking::forget_unless_uncancelled(&mut self.uncancelled, entry.request, due, number);
-        if due.is_batch() {
-            marking::forget_entry(&mut self.batches, entry, due, number);
-        } else {
-            marking::forget_entry(&mut self.singles, entry, due, number);
-        }
+        self.kind(due.is_batch()).forget_entry(entry, due, number);
     }
 
     /// Forgets a content.
-    pub(crate) fn forget_content(&mut self, due: &Due, number: u64)
-        ensures { IsAllWithout due.now.is_batch (λ mark. due_has mark due.now) (λ mark. uncancelled_has mark due.now)
-            number self.new self.old }
+    pub(crate) fn forget_content(&mut self, due: Due, number: u64)
+        ensures here { IsBothWithout (λ mark. due_has mark due) (λ mark. uncancelled_has mark due) number
+            (of_kind due.is_batch self.new) (of_kind due.is_batch self.old) }
+        ensures other_kind { of_kind (not due.is_batch) self.new ≡ of_kind (not due.is_batch) self.old }
     {
-        if due.is_batch() {
-            marking::forget_content(&mut self.batches, &mut self.uncancelled, due, number);
+        self.kind(due.is_batch()).forget_content(due, number);
+    }
+
+    /// The contents of a kind.
+    fn kind(&mut self, is_batch: bool) -> &mut MarkedContents
+        ensures* writes_back { sem 𝓛 (LendsKind is_batch self.entry result) }
+        ensures value { result.now ≡ of_kind is_batch self.old }
+    {
+        if is_batch {
+            &mut self.batches
         } else {
-            marking::forget_content(&mut self.singles, &mut self.uncancelled, due, number);
+            &mut self.singles
         }
     }
 }

@@ -5,8 +5,9 @@ ghost use Rattle.std.specs.Prelude.{◌≡◌, ◌==◌, ◌&&◌, ℕ, OnOk, no
 ghost use Rattle.conversation_open.specs.Marked.{has_number, IsSameButUnder, IsWithout, Keeps, StandsUnder};
 ghost use Rattle.conversation_ids.specs.OwedMarks.{content_has, entry_has, due_has, is_mark, marks_have, uncancelled_has};
 
+use crate::due::Due;
 use crate::numbers_by_mark::NumbersByMark;
-use conversation_ids::{Due, EntryMarks, batch_mark, huge_mark, unreadable_mark};
+use conversation_ids::{EntryMarks, batch_mark, huge_mark, unreadable_mark};
 use std::alloc::AllocError;
 
 /// Notes a content, whatever its entries are. On an error it may stand under some of these marks.
@@ -112,17 +113,25 @@ pub(crate) fn forget_unless_uncancelled(
 pub(crate) fn forget_content(
     marks: &mut NumbersByMark,
     uncancelled: &mut NumbersByMark,
-    due: &Due,
+    due: Due,
     number: u64,
 )
-    ensures marks { IsWithout (λ mark. due_has mark due.now) number marks.new marks.old }
-    ensures requests { IsWithout (λ mark. uncancelled_has mark due.now) number uncancelled.new uncancelled.old }
+    ensures marks { IsWithout (λ mark. due_has mark due) number marks.new marks.old }
+    ensures requests { IsWithout (λ mark. uncancelled_has mark due) number uncancelled.new uncancelled.old }
 {
     forget_if(due.is_unreadable(), marks, unreadable_mark(), number);
     forget_if(due.has_huge(), marks, huge_mark(), number);
     forget_if(due.is_batch(), marks, batch_mark(), number);
-    for owed in due.entries() {
-        let entry = owed.marks();
+    forget_entries(marks, uncancelled, due, number);
+}
+
+/// Forgets a content under the marks of its entries.
+fn forget_entries(marks: &mut NumbersByMark, uncancelled: &mut NumbersByMark, due: Due, number: u64)
+    ensures marks { IsWithout (λ mark. list_any (entry_has mark) due.entries) number marks.new marks.old }
+    ensures requests { IsWithout (λ mark. uncancelled_has mark due) number uncancelled.new uncancelled.old }
+{
+    let mut due = due;
+    while let Some(entry) = due.pop() {
         forget_marks(marks, &entry, number);
         forget_some(uncancelled, entry.request, number);
     }

@@ -1,16 +1,20 @@
-ghost use Rattle.std.specs.Prelude.{ℕ, ◌≡◌, ◌<◌, ◌++◌, ◌∷◌, [], map, length, true, false, Some, is_some, OnOk, OnErr, MatchOption, option_and_then, option_copied};
+ghost use Rattle.std.specs.Prelude.{ℕ, ◌≡◌, ◌<◌, ◌++◌, ◌∷◌, ◌&&◌, [], map, length, not, true, false, Some, is_some, if◌then◌else◌, OnOk, OnErr, MatchOption, option_and_then, option_copied};
 ghost use Rattle.std.specs.Option.{option_map_or};
-ghost use Rattle.conversation_open.specs.Open.{open_entries, contents_of, among_has, AreFixedBetween, AreFixedBehind, IsOpen, IsNoneBetween, IsNoneBehind, last_number, is_open_at, is_empty, settled_at, and_owed, and_removed, unanswered_at};
+ghost use Rattle.conversation_open.specs.Open.{open_entries, contents_of, among_has, among_is_due, is_uncancelled_if_due, AreFixedBetween, AreFixedBehind, IsOpen, IsNoneBetween, IsNoneBehind, IsSettledAt, last_number, is_open_at, is_empty, and_owed, and_removed, place_at, settled_at, unanswered_at};
 ghost use Rattle.conversation_open.specs.Within.{IsOpenWithin};
 ghost use Rattle.conversation_ids.specs.OwedMarks.{entry_has, is_mark, marks_have, request_has};
+ghost use Rattle.conversation_ids.specs.Ways.{fits};
 ghost use Rattle.conversation_rules.specs.Dues.{owed_more, closed, cancelled_in, fit_in, unanswered};
 ghost use Rattle.conversation_rules.specs.Owed.{Due as DueValue, new_due, unreadable_due};
 ghost use Rattle.number_windows.specs.Numbered.{at, without, changed_at};
 
 use crate::among::Among;
+use crate::due::Due;
 use crate::in_window::{cancel_at, push_at, take_at};
 use crate::index::Index;
-use conversation_ids::{Due, EntryMarks, Owed, mark_of};
+use crate::marked_contents::Which;
+use crate::taken::Settled;
+use conversation_ids::{EntryMarks, Owed, Way, mark_of};
 use conversation_reading::WrittenId;
 use conversation_rules::{Fit, Unanswered};
 use number_windows::NumberWindow;
@@ -25,6 +29,9 @@ pub struct OpenContents {
     index: Index,
     /// No number is greater.
     last: u64,
+    /// Each entry that must be answered is a request which no cancel has reached. So these stand among the uncancelled
+    /// ones of the index, and what a cancel has reached needn't be looked through. One that settles nothing ends this.
+    due_are_uncancelled: bool,
 }
 
 impl OpenContents {
@@ -38,6 +45,7 @@ impl OpenContents {
             dues: NumberWindow::new(alloc),
             index: Index::new(alloc),
             last: 0,
+            due_are_uncancelled: true,
         }
     }
 
@@ -64,7 +72,23 @@ impl OpenContents {
             (IsNoneBehind (among_has among mark) after (open_entries self.now))
             (λ number. (after < number) × IsNoneBetween (among_has among mark) after number (open_entries self.now)) }
     {
-        self.index.next(among, mark, after)
+        self.index.next(among, Which::Any, mark, after)
+    }
+
+    /// The same of those with an entry that must be answered, and whose answer is expected to have an id of this mark.
+    /// What cancels have settled isn't looked through.
+    pub fn next_due(&self, among: Among, mark: u128, after: u64) -> Option<u64>
+        requires { IsOpen self.now }
+        ensures { MatchOption result
+            (IsNoneBehind (among_is_due among mark) after (open_entries self.now))
+            (λ number. (after < number) ×
+            IsNoneBetween (among_is_due among mark) after number (open_entries self.now)) }
+    {
+        if self.due_are_uncancelled {
+            self.index.next(among, Which::Uncancelled, mark, after)
+        } else {
+            self.index.next(among, Which::Any, mark, after)
+        }
     }
 
     /// Begins a content. Nothing is owed on it yet.
@@ -111,7 +135,7 @@ impl OpenContents {
         };
         self.dues.make_room()?;
         if let Err(error) = self.index.note_content(&due, number) {
-            self.index.forget_content(&due, number);
+            self.index.forget_content(due, number);
             return Err(error);
         }
         self.dues.push(number, due);
@@ -152,6 +176,7 @@ impl OpenContents {
     {
         let is_batch = self.is_batch_at(number);
         self.index.note_entry(is_batch, entry, number)?;
+        self.due_are_uncancelled &= is_uncancelled_if_due(&owed);
         push_at(self.alloc, &mut self.dues, number, owed)
     }
 
@@ -181,7 +206,7 @@ impl OpenContents {
         }
     }
 
-    /// The next content that a cancel may change. One that settles may change what another one left.
+    /// The next content that a cancel may change.
     fn next_to_cancel(&self, id: &WrittenId, settles: bool, after: u64) -> Option<u64>
         requires { IsOpen self.now }
         ensures { MatchOption result
@@ -189,11 +214,18 @@ impl OpenContents {
             (λ number. (after < number) × AreFixedBetween (cancelled_in settles id.now) after number (open_entries self.now)) }
     {
         let mark = mark_of(id);
-        if settles {
+        if self.may_change_cancelled(settles) {
             self.next_with(Among::All, mark, after)
         } else {
-            self.index.next_uncancelled(mark, after)
+            self.index.next(Among::All, Which::Uncancelled, mark, after)
         }
+    }
+
+    /// Whether a cancel may change what another one has reached: one that settles may, where that one left it due.
+    fn may_change_cancelled(&self, settles: bool) -> bool
+        ensures { result ≡ (settles && not self.now.due_are_uncancelled) }
+    {
+        settles && !self.due_are_uncancelled
     }
 
     fn cancel_in(&mut self, number: u64, id: &WrittenId, settles: bool)
@@ -201,23 +233,41 @@ impl OpenContents {
         ensures entries { open_entries self.new ≡ changed_at number (cancelled_in settles id.now) (open_entries self.old) }
         ensures stands { IsOpen self.new }
     {
+        self.due_are_uncancelled &= settles;
         cancel_at(self.alloc, &mut self.dues, number, id, settles);
         self.forget(number, &EntryMarks::of_request(mark_of(id)));
     }
 
-    /// Takes an entry off a content, which is forgotten where that was its last, and tells of it.
-    pub fn settle_entry(&mut self, number: u64, place: usize) -> Option<Fit>
+    /// Takes the first entry off a content that fits, and tells of it. The content is forgotten where that was its last.
+    pub fn settle_first(&mut self, number: u64, way: Way, id: &WrittenId) -> Option<Fit>
         requires { IsOpen self.old }
-        ensures fit { result ≡ option_and_then (fit_in place) (at number (open_entries self.old)) }
-        ensures entries { open_entries self.new ≡ settled_at number place (open_entries self.old) }
+        ensures fit { result ≡ option_and_then (fit_in (place_at (fits way id.now) (at number (open_entries self.old))))
+            (at number (open_entries self.old)) }
+        ensures entries { open_entries self.new ≡
+            settled_at number (place_at (fits way id.now) (at number (open_entries self.old))) (open_entries self.old) }
         ensures stands { IsOpen self.new }
     {
-        let fit = self.fit_at(number, place);
-        self.take_in(number, place);
-        if self.is_empty_at(number) {
+        match self.take_in(number, way, id) {
+            Some(settled) => {
+                self.remove_if(settled.is_last, number);
+                Some(settled.fit)
+            }
+            None => {
+                self.remove_if(self.is_empty_at(number), number);
+                None
+            }
+        }
+    }
+
+    fn remove_if(&mut self, is_last: bool, number: u64)
+        requires { IsOpen self.old }
+        ensures entries { open_entries self.new ≡
+            (if is_last then without number (open_entries self.old) else open_entries self.old) }
+        ensures stands { IsOpen self.new }
+    {
+        if is_last {
             self.remove(number);
         }
-        fit
     }
 
     /// Takes a content off.
@@ -227,7 +277,7 @@ impl OpenContents {
         ensures stands { IsOpen self.new }
     {
         if let Some(due) = self.dues.remove(number) {
-            self.index.forget_content(&due, number);
+            self.index.forget_content(due, number);
         }
     }
 
@@ -249,7 +299,7 @@ impl OpenContents {
         ensures { OnOk result (told.new.items ≡ told.old.items ++ unanswered_at number (open_entries self.now)) }
     {
         match self.dues.get(number) {
-            Some(due) => due.put_unanswered(told),
+            Some(due) => due.put_unanswered(self.alloc, told),
             None => Ok(()),
         }
     }
@@ -312,24 +362,21 @@ impl OpenContents {
         }
     }
 
-    fn fit_at(&self, number: u64, place: usize) -> Option<Fit>
-        requires { IsOpen self.now }
-        ensures { result ≡ option_and_then (fit_in place) (at number (open_entries self.now)) }
-    {
-        match self.dues.get(number) {
-            Some(due) => due.fit(place),
-            None => None,
-        }
-    }
-
-    /// Takes an entry off a content, which stays.
-    fn take_in(&mut self, number: u64, place: usize)
+    /// Takes the first entry off a content that fits, and tells of it. The content stays.
+    fn take_in(&mut self, number: u64, way: Way, id: &WrittenId) -> Option<Settled>
         requires { IsOpen self.old }
-        ensures entries { open_entries self.new ≡ changed_at number (and_removed place) (open_entries self.old) }
+        ensures settled { IsSettledAt (at number (open_entries self.old))
+            (place_at (fits way id.now) (at number (open_entries self.old))) result }
+        ensures entries { open_entries self.new ≡
+            changed_at number (and_removed (place_at (fits way id.now) (at number (open_entries self.old)))) (open_entries self.old) }
         ensures stands { IsOpen self.new }
     {
-        if let Some(owed) = take_at(self.alloc, &mut self.dues, number, place) {
-            self.forget(number, &owed.marks());
+        match take_at(self.alloc, &mut self.dues, number, way, id) {
+            Some(settled) => {
+                self.forget(number, &settled.marks);
+                Some(settled)
+            }
+            None => None,
         }
     }
 
@@ -343,4 +390,10 @@ impl OpenContents {
             self.index.forget_entry(entry, due, number);
         }
     }
+}
+
+fn is_uncancelled_if_due(owed: &Owed) -> bool
+    ensures { result ≡ is_uncancelled_if_due owed.now }
+{
+    !owed.must() || (owed.is_request() && !owed.is_cancelled())
 }

@@ -1,31 +1,28 @@
-use Rattle.std.proofs.Common.{◌∙◌, ap, sym, subst, map}
+use Rattle.std.proofs.Common.{◌∙◌, ap, subst, map}
 use Rattle.std.specs.Prelude.{not}
 use Rattle.std.specs.List.{slice_get}
-use Rattle.conversation_dues.specs.Left.{choice, all_taken, ids_of, places_of, IsTaken, expects_any}
+use Rattle.conversation_dues.specs.Left.{choice, all_taken, ids_of, IsTaken, expects_any}
+use Rattle.conversation_open.specs.Left.{places_of}
 use Rattle.conversation_dues.specs.declared.arrays.Which.TheVariants.{Expected}
-use Rattle.conversation_dues.proofs.Left.{not_these, if_none_left, none_taken, some_taken, any-left}
-use Rattle.conversation_dues.proofs.InLine.{in_line_is_just}
+use Rattle.conversation_dues.proofs.Left.{not_these, if_none_left, none_taken, some_taken}
+use Rattle.conversation_open.proofs.Lists.{any-left}
 use Rattle.conversation_dues.proofs.arrays.are_just.Goals as goal
 
-pub returns-then-are_in_line : goal.returns-then-are_in_line
-returns-then-are_in_line c =
-    sym (in_line_is_just c.args.entries.now c.args.ids.now (sym c.are_in_line.ensures ∙ c.if-are_in_line.true))
-
 pub returns-then-not-take_all : goal.returns-then-not-take_all
-returns-then-not-take_all c =
-    let entries = c.args.entries.now in
+returns-then-not-take_all c = λ all is.
     let ids = c.args.ids.now in
-    let at = slice_get entries in
-    not_these ids entries
-    (none_taken at (places_of c.take_all.new.places) (all_taken (choice Expected) (ids_of Expected ids) entries)
-    (subst (λ all. IsTaken at (places_of c.take_all.new.places) all (all_taken (choice Expected) (ids_of Expected ids) entries)) c.if-not-take_all.true (c.take_all.ensures.taken entries c.in_ok-left.ensures.left)))
+    let at = slice_get c.args.entries.now in
+    let standing = ap (map at) c.in_ok-left.ensures.places ∙ is in
+    not_these ids all
+    (none_taken at (places_of c.take_all.new.places) (all_taken (choice Expected) (ids_of Expected ids) all)
+    (subst (λ done. IsTaken at (places_of c.take_all.new.places) done (all_taken (choice Expected) (ids_of Expected ids) all)) c.if-not-take_all.true (c.take_all.ensures.taken all standing)))
 
 pub returns : goal.returns
-returns c =
-    let entries = c.args.entries.now in
+returns c = λ all is.
     let ids = c.args.ids.now in
-    let at = slice_get entries in
-    let all = some_taken at (places_of c.take_all.new.places) (all_taken (choice Expected) (ids_of Expected ids) entries)
-    (subst (λ all. IsTaken at (places_of c.take_all.new.places) all (all_taken (choice Expected) (ids_of Expected ids) entries)) c.if-not-take_all.false (c.take_all.ensures.taken entries c.in_ok-left.ensures.left)) in
-    ap not (c.any_expects.ensures ∙ any-left expects_any at c.as_slice.result.now all.0 (ap (map at) (c.as_slice.ensures.value ∙ c.in_ok-places.ensures) ∙ all.1.1))
-    ∙ if_none_left ids entries all.0 all.1.0
+    let at = slice_get c.args.entries.now in
+    let standing = ap (map at) c.in_ok-left.ensures.places ∙ is in
+    let now = some_taken at (places_of c.take_all.new.places) (all_taken (choice Expected) (ids_of Expected ids) all)
+    (subst (λ done. IsTaken at (places_of c.take_all.new.places) done (all_taken (choice Expected) (ids_of Expected ids) all)) c.if-not-take_all.false (c.take_all.ensures.taken all standing)) in
+    ap not (c.any_expects.ensures ∙ any-left expects_any at c.as_slice.result.now now.0 (ap (map at) (c.as_slice.ensures.value ∙ c.in_ok-rest.ensures) ∙ now.1.1))
+    ∙ if_none_left ids all now.0 now.1.0

@@ -15,7 +15,7 @@ pub returns-then-branch : goal.returns-then-branch
 returns-then-branch c =
     let es = open_entries c.args.contents.now in
     let passes = is_answered c.args.answer c.args.ids.now in
-    scan_found (whole_if passes) (among_has Batches c.first_mark-mark.result) c.loop-number.after c.in-Some.number 0 es c.requires.stands.window.ordered c.loop-number.invariant c.in-Some.ensures.1
+    scan_found (whole_if passes) (among_has Batches c.first_mark-mark.result) c.loop-number.after c.in-Some.number es c.requires.stands.window.ordered c.loop-number.invariant c.in-Some.ensures.1
     (λ due none. whole_none passes due (not_answered c.args.answer c.args.ids.now due c.first_mark-mark.result (c.first_mark-mark.ensures c.args.answer due) none))
     (is_whole passes (at c.in-Some.number es) (sym c.in_ok-is_answered_at.ensures ∙ c.if-branch.true))
 

@@ -1,4 +1,4 @@
-use Rattle.std.proofs.Common.{◌∙◌, ap, sym, None, Some, option_map, position}
+use Rattle.std.proofs.Common.{◌∙◌, ap, sym, None, Some, position}
 use Rattle.std.specs.Prelude.{count_by}
 use Rattle.std.specs.Option.{option_map_or, is_none}
 use Rattle.conversation_dues.specs.Answered.{is_answered}
@@ -15,7 +15,7 @@ returns-in-Some c =
     let es = open_entries c.args.contents.now in
     let ids = c.args.ids.now in
     ap (λ o. option_map_or Some o (position (can_be_answered (ids_read ids) (count_by is_none ids)) (contents_of es)))
-    (number_is (is_answered Just ids) es (Some c.in-Some.number) c.requires.stands.window.ordered (ap (option_map (λ n. (n, 0))) (sym c.in-Some.is) ∙ c.in_ok-number.ensures))
+    (number_is (is_answered Just ids) es (Some c.in-Some.number) c.requires.stands.window.ordered (sym c.in-Some.is ∙ c.in_ok-number.ensures))
 
 pub returns-in-None : goal.returns-in-None
 returns-in-None c =
@@ -23,6 +23,6 @@ returns-in-None c =
     let ids = c.args.ids.now in
     if_ok_then c.first_batch-in-None.result
     (λ number found. ap (λ o. option_map_or Some o (position (can_be_answered (ids_read ids) (count_by is_none ids)) (contents_of es)))
-    (number_is (is_answered Just ids) es None c.requires.stands.window.ordered (ap (option_map (λ n. (n, 0))) (sym c.in-None.is) ∙ c.in_ok-number.ensures))
+    (number_is (is_answered Just ids) es None c.requires.stands.window.ordered (sym c.in-None.is ∙ c.in_ok-number.ensures))
     ∙ number_is (is_answered Possible ids) es number c.requires.stands.window.ordered found)
     c.first_batch-in-None.ensures

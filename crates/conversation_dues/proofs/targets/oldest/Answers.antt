@@ -1,6 +1,6 @@
-use Rattle.std.proofs.Common.{◌∙◌, ap, sym, option_map}
+use Rattle.std.proofs.Common.{◌∙◌, ap, option_map}
 use Rattle.conversation_dues.specs.Found.{first_of}
-use Rattle.conversation_dues.proofs.Firsts.{oldest_is, entry_at}
+use Rattle.conversation_dues.proofs.Firsts.{oldest_found, oldest_missing}
 use Rattle.conversation_open.specs.Open.{open_entries}
 use Rattle.conversation_ids.specs.Ways.{fits}
 use Rattle.conversation_dues.proofs.targets.oldest.Goals as goal
@@ -8,11 +8,11 @@ use Rattle.conversation_dues.proofs.targets.oldest.Goals as goal
 pub returns-in-Some : goal.returns-in-Some
 returns-in-Some c =
     let es = open_entries c.args.contents.now in
-    oldest_is c.args.batches (fits c.args.way c.args.id.now) es c.requires.window.ordered
-    ∙ ap (option_map (entry_at es)) (ap (λ f. first_of f es) (sym (c.entry.ensures c.args.id.now)) ∙ sym c.in-Some.ensures)
+    oldest_found c.args.batches (fits c.args.way c.args.id.now) c.in-Some.number es c.requires.window.ordered
+    (c.in-Some.ensures ∙ ap (λ f. option_map (λ found. found.0) (first_of f es)) (c.entry.ensures c.args.id.now))
 
 pub returns-in-None : goal.returns-in-None
 returns-in-None c =
     let es = open_entries c.args.contents.now in
-    oldest_is c.args.batches (fits c.args.way c.args.id.now) es c.requires.window.ordered
-    ∙ ap (option_map (entry_at es)) (ap (λ f. first_of f es) (sym (c.entry.ensures c.args.id.now)) ∙ sym c.in-None.ensures)
+    oldest_missing c.args.batches (fits c.args.way c.args.id.now) es c.requires.window.ordered
+    (c.in-None.ensures ∙ ap (λ f. option_map (λ found. found.0) (first_of f es)) (c.entry.ensures c.args.id.now))

@@ -2,8 +2,9 @@ use Rattle.std.proofs.Common.{◌≡◌, ◌+◌, ◌++◌, ◌∷◌, [], suc, 
 use Rattle.number_windows.specs.Windows.{window_entries}
 use Rattle.number_windows.specs.Numbered.{Above, Below}
 use Rattle.number_windows.proofs.Numbered.{below_push, above_push, at_below}
-use Rattle.conversation_open.specs.Open.{open_entries, IsIndexed}
+use Rattle.conversation_open.specs.Open.{open_entries, AreUncancelled, IsIndexed}
 use Rattle.conversation_open.proofs.Indexed.{indexed_come, indexed_back}
+use Rattle.conversation_open.proofs.Uncancelled.{uncancelled_come}
 use Rattle.conversation_open.proofs.open_contents.OpenContents.add.Goals as goal
 
 pub returns-clause-stands : goal.returns-clause-stands
@@ -19,7 +20,8 @@ returns-clause-stands c =
       above = subst (λ fs. Above 0 fs) (sym is) (above_push 0 number c.args.due es (omega arith) c.requires.stands.above);
       below = subst (λ fs. Below (suc number) fs) (sym is) (below_push number (suc number) number c.args.due es (omega arith) (omega arith) under);
       indexed = indexed_come c.note_content.new.self c.args.self.now.index (window_entries c.push.new.self) es number c.args.due c.requires.stands.indexed is (at_below number es under) c.requires.none
-          c.in_default.ensures.noted c.note_content.ensures.others;
+          c.in_default.ensures.noted c.note_content.ensures.others c.note_content.ensures.other_kind;
+      uncancelled = λ on. uncancelled_come (window_entries c.push.new.self) es number c.args.due is (at_below number es under) c.requires.none (c.requires.stands.uncancelled on);
     }
 
 pub returns-in-Err-clause-stands : goal.returns-in-Err-clause-stands
@@ -34,5 +36,6 @@ returns-in-Err-clause-stands c =
       below = subst (λ fs. Below (suc last) fs) (sym c.make_room.ensures.entries) c.requires.stands.below;
       indexed = subst (IsIndexed c.forget_content.new.self) (sym c.make_room.ensures.entries)
           (indexed_back c.forget_content.new.self c.note_content.new.self c.args.self.now.index es c.in-Some.number c.args.due c.requires.stands.indexed (at_below c.in-Some.number es under) c.requires.none
-          c.note_content.ensures.others c.forget_content.ensures);
+          c.note_content.ensures.others c.note_content.ensures.other_kind c.forget_content.ensures.here c.forget_content.ensures.other_kind);
+      uncancelled = λ on. subst AreUncancelled (sym c.make_room.ensures.entries) (c.requires.stands.uncancelled on);
     }

@@ -6,6 +6,7 @@ use Rattle.number_windows.proofs.Numbered.{below_changed, above_changed}
 use Rattle.conversation_rules.specs.Dues.{cancelled_in}
 use Rattle.conversation_open.specs.Open.{open_entries}
 use Rattle.conversation_open.proofs.Indexed.{within_cancelled}
+use Rattle.conversation_open.proofs.Uncancelled.{uncancelled_settled}
 use Rattle.conversation_open.proofs.open_contents.OpenContents.cancel_in.Goals as goal
 
 pub forget-requires : goal.forget-requires
@@ -18,4 +19,5 @@ forget-requires c =
       below = subst (λ fs. Below (suc c.args.self.now.last) fs) (sym c.cancel_at.ensures.entries) (below_changed (suc c.args.self.now.last) c.args.number (cancelled_in c.args.settles c.args.id.now) es c.requires.below);
       indexed = within_cancelled c.of_request.result c.args.self.now.index now es c.args.number c.args.settles c.args.id.now c.requires.indexed c.cancel_at.ensures.entries
           (λ mark. ap (λ entry. is_mark entry.request mark) c.of_request.ensures ∙ ap (λ own. own == mark) c.mark_of.ensures);
+      uncancelled = uncancelled_settled now es c.args.number c.args.self.now.due_are_uncancelled c.args.settles c.args.id.now c.cancel_at.ensures.entries c.requires.uncancelled;
     }

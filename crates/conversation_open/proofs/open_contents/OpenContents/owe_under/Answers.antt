@@ -2,11 +2,13 @@ use Rattle.std.proofs.Common.{suc, subst, sym}
 use Rattle.number_windows.specs.Windows.{window_entries}
 use Rattle.number_windows.specs.Numbered.{Above, Below, at}
 use Rattle.number_windows.proofs.Numbered.{below_changed, above_changed}
-use Rattle.conversation_open.specs.Open.{open_entries, and_owed, IsIndexed}
+use Rattle.conversation_open.specs.Open.{open_entries, and_owed, AreUncancelled, IsIndexed}
 use Rattle.conversation_open.specs.Within.{IsIndexedWithin}
+use Rattle.conversation_open.proofs.Entries.{parts_of}
 use Rattle.conversation_open.proofs.Indexed.{indexed_owed, within_owed}
 use Rattle.conversation_open.proofs.Lasts.{from_some}
 use Rattle.conversation_open.proofs.StandIns.{if_ok, if_err, on_err}
+use Rattle.conversation_open.proofs.Uncancelled.{uncancelled_owed}
 use Rattle.conversation_open.proofs.open_contents.OpenContents.owe_under.Goals as goal
 
 pub returns-clause-stands : goal.returns-clause-stands
@@ -21,7 +23,8 @@ returns-clause-stands c =
       below = subst (λ fs. Below (suc c.args.self.now.last) fs) (sym is) (below_changed (suc c.args.self.now.last) c.args.number f es c.requires.stands.below);
       indexed = from_some (at c.args.number es) c.requires.there (IsIndexed c.note_entry.new.self now)
           (λ due there. indexed_owed c.args.entry.now c.args.owed c.requires.entry c.requires.request c.note_entry.new.self c.args.self.now.index now es c.args.number due c.is_batch_at-is_batch.result c.requires.stands.indexed is there
-          (c.is_batch_at-is_batch.ensures due there) c.in_ok-note_entry.ensures.noted c.note_entry.ensures.others);
+          (c.is_batch_at-is_batch.ensures due there) c.in_ok-note_entry.ensures.noted c.note_entry.ensures.others c.note_entry.ensures.other_kind);
+      uncancelled = uncancelled_owed now es c.args.number c.args.owed c.args.self.now.due_are_uncancelled c.is_uncancelled_if_due.result is c.is_uncancelled_if_due.ensures c.requires.stands.uncancelled;
     })
     c.push_at.ensures.ok
 
@@ -36,7 +39,8 @@ returns-clause-within c =
       below = subst (λ fs. Below (suc c.args.self.now.last) fs) (sym is) c.requires.stands.below;
       indexed = subst (IsIndexedWithin c.args.entry.now c.args.number c.note_entry.new.self) (sym is) (from_some (at c.args.number es) c.requires.there (IsIndexedWithin c.args.entry.now c.args.number c.note_entry.new.self es)
           (λ due there. within_owed c.args.entry.now c.note_entry.new.self c.args.self.now.index es c.args.number due c.is_batch_at-is_batch.result c.requires.stands.indexed there
-          (c.is_batch_at-is_batch.ensures due there) c.note_entry.ensures.kept c.note_entry.ensures.others));
+          (c.is_batch_at-is_batch.ensures due there) c.note_entry.ensures.kept c.note_entry.ensures.others c.note_entry.ensures.other_kind));
+      uncancelled = λ both. subst AreUncancelled (sym is) (c.requires.stands.uncancelled (parts_of c.args.self.now.due_are_uncancelled c.is_uncancelled_if_due.result both).0);
     })
     c.push_at.ensures.err
 
@@ -49,5 +53,6 @@ returns-in_err-note_entry-clause-within c =
       below = c.requires.stands.below;
       indexed = from_some (at c.args.number es) c.requires.there (IsIndexedWithin c.args.entry.now c.args.number c.note_entry.new.self es)
           (λ due there. within_owed c.args.entry.now c.note_entry.new.self c.args.self.now.index es c.args.number due c.is_batch_at-is_batch.result c.requires.stands.indexed there
-          (c.is_batch_at-is_batch.ensures due there) c.note_entry.ensures.kept c.note_entry.ensures.others);
+          (c.is_batch_at-is_batch.ensures due there) c.note_entry.ensures.kept c.note_entry.ensures.others c.note_entry.ensures.other_kind);
+      uncancelled = c.requires.stands.uncancelled;
     })
