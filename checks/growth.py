@@ -1,13 +1,12 @@
 """The program's work grows with its input and no faster: twice the input takes at most 2.2 times the instructions, and so
 does what `judge` is shown: contents that can be read and that can't, long ids, ids that are used again and that are held
-open. Three conversations are known to take the judge the square of their size; this is seen. And no memory is asked for
-what is only promised: a head that says 16 MiB, with nothing behind it, makes no large request. Nor is any kept for what
-is over: a million runs of a method take as much as a thousand, ten thousand batches and cancels that the judge saw and
-that are answered hold what a thousand hold, and a server that rests holds the same bytes, to the kilobyte, behind the
-second and the third content, line or response of 16 MB, long batch or piece of many lines. Behind
-100,000 open calls, and as many notifications that run on once their batch is answered, it is known to hold more: the sets
-of numbers keep their room. At rest it has little room for what may come, and an entry of a batch takes what it needs. A
-long content is read once if its method comes first, and without its params if the table lacks it.
+open. And no memory is asked for what is only promised: a head that says 16 MiB, with nothing behind it, makes no large
+request. Nor is any kept for what is over: a million runs of a method take as much as a thousand, ten thousand batches
+and cancels that the judge saw and that are answered hold what a thousand hold, and a server that rests holds the same
+bytes, to the kilobyte, behind the second and the third content, line or response of 16 MB, long batch or piece of many
+lines. Behind 100,000 open calls, and as many notifications that run on once their batch is answered, it is known to hold
+more: the sets of numbers keep their room. At rest it has little room for what may come, and an entry of a batch takes
+what it needs. A long content is read once if its method comes first, and without its params if the table lacks it.
 
 Instructions are callgrind's, so that a busy machine changes nothing. What a size costs beside its start, the program's
 own beginning, is left out. Why by instructions: docs/decisions/tests_and_releases.md#measuring."""
@@ -167,28 +166,36 @@ JUDGED = [
     ),
     ("cancels of equal ids", lambda size: shown(*[asks(1)] * size, *[(">", rows.cancel(1))] * size), 1_000),
     (
+        "cancels of equal ids by MCP's rules, and answers to these",
+        lambda size: shown(*[asks(1)] * size, *[left(1)] * size, *[answers(1)] * size, rules="mcp"),
+        1_000,
+    ),
+    ("a batch, answered one by one", lambda size: shown(array_of(">", to(size), asks), *map(answers, to(size))), 1_000),
+    (
+        "a batch, answered one by one from its end",
+        lambda size: shown(array_of(">", to(size), asks), *map(answers, reversed(to(size)))),
+        1_000,
+    ),
+    (
+        "a batch of equal ids, answered one by one",
+        lambda size: shown(array_of(">", [1] * size, asks), *[answers(1)] * size),
+        1_000,
+    ),
+    (
+        "a batch, half of it answered one by one and the rest as one",
+        lambda size: shown(
+            array_of(">", to(size), asks),
+            *map(answers, to(size // 2)),
+            array_of("<", reversed(range(size // 2 + 1, size + 1)), answers),
+        ),
+        1_000,
+    ),
+    (
         "arrays that fit no batch",
         lambda size: shown(*[array_of(">", (1, 2), asks)] * size, *[array_of("<", (3, 1), answers)] * size),
         600,
     ),
 ]
-# Known to take the square of the size: each single answer is tried on what is left of a batch, and each cancel by MCP's
-# rules on all that has its id, as is an answer where nothing must be answered. Of equal ids in a batch the first one fits,
-# and what is behind it is moved, which shows at this size.
-SQUARES = [
-    (
-        "a batch of equal ids, answered one by one",
-        lambda size: shown(array_of(">", [1] * size, asks), *[answers(1)] * size),
-        4_000,
-    ),
-    ("a batch, answered one by one", lambda size: shown(array_of(">", to(size), asks), *map(answers, to(size))), 300),
-    (
-        "cancels of equal ids by MCP's rules, and answers to these",
-        lambda size: shown(*[asks(1)] * size, *[left(1)] * size, *[answers(1)] * size, rules="mcp"),
-        150,
-    ),
-]
-
 # What passes before the judge: its name, the rules, and what is said by a number.
 PASSING = [
     ("batches", "jsonrpc", lambda it: (array_of(">", (it, -it), asks), array_of("<", (-it, it), answers))),
@@ -324,13 +331,6 @@ def check_growth(count, label, size, *taken):
         count.check(label, growth <= MOST, f"growth {growth:.2f}, at most {MOST}")
 
 
-def check_square(count, label, size, *taken):
-    """What is known to grow faster. Once it doesn't, its row belongs to the others."""
-    growth = growth_of(count, label, size, *taken)
-    if growth is not None:
-        count.check(f"{label} grows faster, which is seen", growth > MOST, f"growth {growth:.2f}")
-
-
 def check_all(count):
     """Counts the instructions of all sizes, as many side by side as there are processors, and compares them."""
     if ran.lacks("valgrind", "it counts the instructions"):
@@ -340,7 +340,6 @@ def check_all(count):
         measured = [
             *((check_growth, it) for it in (*inputs(), *judged(JUDGED), *(orders(bench) if bench else ()))),
             *((check_growth, it) for it in connections(room)),
-            *((check_square, it) for it in judged(SQUARES)),
         ]
         counts = iter(
             ran.side_by_side(partial(counted, it) for _, (_, size, counted) in measured for it in (0, size // 2, size))

@@ -11,6 +11,7 @@ from support import ran
 from support.connection_script import FRAMINGS
 from support.judge_answering import leaving
 from support.judge_conversations import Conversation, Seen, show
+from support.judge_long_batches import in_long_batches
 from support.judge_model import MOST_CONTENT, MOST_IDS, SIDES, Finding, Judge
 from support.judge_refusals import refusing
 from support.judge_rules import CONNECTION, HOST, MUST, NOT_JUDGED, NOTE, RULES, SHOULD
@@ -119,6 +120,7 @@ KINDS = {
     "planted": planted,
     "refused": refusing,
     "leaving": leaving,
+    "in long batches": in_long_batches,
 }
 
 
