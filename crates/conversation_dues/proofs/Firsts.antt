@@ -8,11 +8,12 @@ use Rattle.number_windows.specs.Numbered.{at, without, changed_at, Above, Ascend
 use Rattle.number_windows.proofs.Numbered.{apart_after, at_above, without_above, changed_above}
 use Rattle.conversation_ids.specs.Ways.{fits}
 use Rattle.conversation_ids.specs.declared.ways.Way.{Way}
-use Rattle.conversation_open.proofs.Lists.{at_index, behind, here, position-first, position_is_place, removed_is}
+use Rattle.conversation_contents.proofs.Lists.{at_index, behind, here, position-first, position_is_place, removed_is}
 use Rattle.conversation_dues.specs.Found.{first_of, target_at, whole_if}
-use Rattle.conversation_open.specs.Left.{index_of}
+use Rattle.conversation_contents.specs.Left.{index_of}
 use Rattle.conversation_dues.specs.declared.targets.Place.TheVariants as places
-use Rattle.conversation_open.specs.Open.{contents_of, place_at, settled_at, and_removed, is_empty, IsNoneBetween, IsNoneBehind}
+use Rattle.conversation_open.specs.Open.{contents_of, settled_at, IsNoneBetween, IsNoneBehind}
+use Rattle.conversation_contents.specs.Settled.{place_at, and_removed, is_empty}
 use Rattle.conversation_reading.specs.declared.entry.WrittenId.{WrittenId}
 use Rattle.conversation_rules.specs.Dues.{settled, settled_entry, fit_in, found}
 use Rattle.conversation_rules.specs.Matching.{oldest, place_in, later}

@@ -11,7 +11,7 @@ use Rattle.conversation_rules.specs.Matching.{taken_by, nulls_last}
 use Rattle.conversation_rules.specs.Owed.{Owed, Due}
 use Rattle.conversation_rules.specs.declared.found.Fit.{Fit}
 use Rattle.conversation_dues.specs.Left.{ids_of, left_after, left_of}
-use Rattle.conversation_open.specs.Left.{IsLeftOf}
+use Rattle.conversation_contents.specs.Left.{IsLeftOf}
 use Rattle.conversation_dues.specs.declared.arrays.Which.TheVariants.{Named, Nulls}
 
 left_of-append : (xs ys : List WrittenId) (left : List Owed) → left_of (xs ++ ys) left ≡ left_of ys (left_of xs left)

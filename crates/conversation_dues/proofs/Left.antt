@@ -4,14 +4,14 @@ use Rattle.std.specs.Prelude.{not, option_and_then, is_some}
 use Rattle.std.specs.List.{cons_option, remove, list_any}
 use Rattle.std.specs.Option.{option_map_or}
 use Rattle.conversation_dues.proofs.Steps.{drop_here}
-use Rattle.conversation_open.proofs.Lists.{position-first, remove-left}
+use Rattle.conversation_contents.proofs.Lists.{position-first, remove-left}
 use Rattle.conversation_reading.specs.declared.entry.WrittenId.{WrittenId}
 use Rattle.conversation_rules.specs.Amounts.{same_id}
 use Rattle.conversation_rules.specs.Dues.{ids_read}
 use Rattle.conversation_rules.specs.Matching.{without_id, same_ids, taken_by, left_by, nulls_last, leaves_no_request}
 use Rattle.conversation_rules.specs.Owed.{Owed, is_expected, may_have, has_id}
 use Rattle.conversation_dues.specs.Left.{IsTaken, is_of, ids_of, all_taken, choice, expects_any, expected_of}
-use Rattle.conversation_open.specs.Left.{IsLeftOf}
+use Rattle.conversation_contents.specs.Left.{IsLeftOf}
 use Rattle.conversation_dues.specs.declared.arrays.Which.{Which}
 use Rattle.conversation_dues.specs.declared.arrays.Which.TheVariants.{Expected, Named, Nulls}
 

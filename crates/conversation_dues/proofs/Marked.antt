@@ -5,7 +5,7 @@ use Rattle.std.specs.Prelude.{count_by}
 use Rattle.std.specs.Option.{IfSome, option_map_or, option_and_then, is_none}
 use Rattle.std.proofs.lemmas.Bool.{false_from_ne_true}
 use Rattle.conversation_dues.proofs.Left.{without-is}
-use Rattle.conversation_open.proofs.Lists.{position-first}
+use Rattle.conversation_contents.proofs.Lists.{position-first}
 use Rattle.conversation_dues.specs.Answered.{is_answered}
 use Rattle.conversation_dues.specs.Left.{expected_of}
 use Rattle.conversation_dues.specs.declared.batches.Answer.{Answer}

@@ -9,8 +9,9 @@ use Rattle.conversation_dues.specs.declared.sought.Sought.TheVariants.{Single, I
 use Rattle.conversation_dues.specs.declared.targets.Place.{Place}
 use Rattle.conversation_dues.specs.declared.targets.Place.TheVariants as places
 use Rattle.conversation_ids.specs.Ways.{fits}
-use Rattle.conversation_open.specs.Left.{index_of}
-use Rattle.conversation_open.specs.Open.{among_has, among_is_due, place_at}
+use Rattle.conversation_contents.specs.Left.{index_of}
+use Rattle.conversation_open.specs.Open.{among_has, among_is_due}
+use Rattle.conversation_contents.specs.Settled.{place_at}
 use Rattle.conversation_reading.specs.declared.entry.WrittenId.{WrittenId}
 use Rattle.conversation_reading.specs.declared.entry.WrittenId.TheVariants.{Null}
 use Rattle.conversation_rules.specs.Matching.{place_in, is_request_for}

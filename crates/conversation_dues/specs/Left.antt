@@ -8,7 +8,7 @@ use Rattle.conversation_rules.specs.Matching.{taken_by}
 use Rattle.conversation_rules.specs.Owed.{Owed, is_expected}
 use Rattle.conversation_dues.specs.declared.arrays.Which.{Which}
 use Rattle.conversation_dues.specs.declared.arrays.Which.TheVariants.{Expected, Named, Nulls}
-use Rattle.conversation_open.specs.Left.{IsLeftOf}
+use Rattle.conversation_contents.specs.Left.{IsLeftOf}
 
 abbrev pub is_of : Which → WrittenId → Bool
 is_of Expected id = true

@@ -8,10 +8,10 @@ ghost use Rattle.conversation_rules.specs.Dues.{ids_read, array_fits, fits_of, f
 ghost use Rattle.conversation_rules.specs.Matching.{taken_by, left_by, nulls_last, leaves_no_request, same_ids, is_just, is_just_due, can_be_answered};
 ghost use Rattle.conversation_rules.specs.Owed.{Owed as OwedValue, is_expected, may_have};
 ghost use Rattle.conversation_dues.specs.Left.{IsTaken, all_taken, are_in_line, choice, expects, ids_of, is_of, expects_any, expected_of, left_after, left_of};
-ghost use Rattle.conversation_open.specs.Left.{IsFindable, IsLeftOf, index_in, places_of};
+ghost use Rattle.conversation_contents.specs.Left.{IsFindable, IsLeftOf, index_in, places_of};
 
+use conversation_contents::{Due, Left, Look};
 use conversation_ids::{Owed, Way, is_null};
-use conversation_open::{Due, Left, Look};
 use conversation_reading::WrittenId;
 use conversation_rules::Fit;
 use std::alloc::{AllocError, Global};

@@ -5,7 +5,7 @@ ghost use Rattle.std.specs.List.{list_any};
 ghost use Rattle.std.specs.Option.{option_map_or, is_none};
 ghost use Rattle.conversation_dues.specs.Answered.{is_answered};
 ghost use Rattle.conversation_dues.specs.Found.{first_of, whole_if};
-ghost use Rattle.conversation_open.specs.Left.{index_of};
+ghost use Rattle.conversation_contents.specs.Left.{index_of};
 ghost use Rattle.conversation_dues.specs.declared.batches.Answer.{Answer as AnswerValue};
 ghost use Rattle.conversation_open.specs.Open.{open_entries, contents_of, IsOpen};
 ghost use Rattle.conversation_ids.specs.OwedMarks.{due_has};
@@ -16,8 +16,9 @@ ghost use Rattle.number_windows.specs.Numbered.{at};
 
 use crate::arrays::{can_be_answered, is_just, is_just_due};
 use crate::targets::has_batch;
+use conversation_contents::Due;
 use conversation_ids::{mark_of, null_mark};
-use conversation_open::{Among, Due, OpenContents};
+use conversation_open::{Among, OpenContents};
 use conversation_reading::WrittenId;
 use std::alloc::{AllocError, Global};
 

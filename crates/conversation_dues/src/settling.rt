@@ -3,7 +3,7 @@
 ghost use Rattle.std.specs.Prelude.{◌≡◌, Some, remove, is_some, option_map, IfOk, OnOk, OnErr};
 ghost use Rattle.conversation_dues.specs.Found.{target_at};
 ghost use Rattle.conversation_dues.specs.declared.targets.Place.TheVariants as places;
-ghost use Rattle.conversation_open.specs.Left.{index_of};
+ghost use Rattle.conversation_contents.specs.Left.{index_of};
 ghost use Rattle.conversation_open.specs.Open.{open_entries, contents_of, IsOpen};
 ghost use Rattle.conversation_reading.specs.declared.entry.WrittenId.TheVariants.{Null};
 ghost use Rattle.conversation_rules.specs.declared.found.Target.TheVariants as targets;

@@ -12,8 +12,9 @@ ghost use Rattle.conversation_rules.specs.Matching.{place_in};
 ghost use Rattle.conversation_rules.specs.Owed.{Due as DueValue, Owed as OwedValue};
 ghost use Rattle.number_windows.specs.Numbered.{at};
 
+use conversation_contents::Due;
 use conversation_ids::{Way, batch_mark, huge_mark, mark_of, null_mark, unreadable_mark};
-use conversation_open::{Among, Due, OpenContents};
+use conversation_open::{Among, OpenContents};
 use conversation_reading::WrittenId;
 
 #[derive(Clone, Copy)]

@@ -1,6 +1,7 @@
 -- The two kinds of contents of an index, one of which was changed.
 use Rattle.std.proofs.Common.{◌≡◌, ℕ, ◌&&◌, Bool, true, false, not, refl, ap, ◌∙◌}
-use Rattle.conversation_open.specs.Marked.{has_number, of_kind, KeepsBoth, IsBothWithout, IsNotedAs, IsSameBothBut}
+use Rattle.conversation_contents.specs.Numbers.{has_number}
+use Rattle.conversation_open.specs.Marked.{of_kind, KeepsBoth, IsBothWithout, IsNotedAs, IsSameBothBut}
 use Rattle.conversation_open.specs.declared.index.Index.{Index}
 use Rattle.conversation_open.specs.declared.marked_contents.MarkedContents.{MarkedContents}
 use Rattle.conversation_open.proofs.Noting.{without_none}

@@ -7,8 +7,8 @@ use Rattle.std.specs.List.{list_any, remove, slice_get}
 use Rattle.conversation_ids.specs.Marks.{mark_of, null_mark}
 use Rattle.conversation_ids.proofs.OneMark.{one_mark}
 use Rattle.conversation_ids.specs.OwedMarks.{has_mark, entry_has, content_has, due_has, request_has, uncancelled_has}
-use Rattle.conversation_open.proofs.Noting.{either_false, either_of}
-use Rattle.conversation_open.specs.Open.{and_owed, and_removed}
+use Rattle.conversation_contents.proofs.Cases.{either_false, either_of}
+use Rattle.conversation_contents.specs.Settled.{and_owed, and_removed}
 use Rattle.conversation_reading.specs.declared.entry.WrittenId.{WrittenId}
 use Rattle.conversation_rules.specs.Amounts.{same_id}
 use Rattle.conversation_rules.specs.Dues.{cancelled, cancelled_in}

@@ -8,8 +8,10 @@ use Rattle.number_windows.specs.Numbered.{at, without, changed_at}
 use Rattle.conversation_ids.specs.Marks.{mark_of}
 use Rattle.conversation_ids.specs.OwedMarks.{is_mark, marks_have, entry_has, content_has, due_has, request_has, uncancelled_has}
 use Rattle.conversation_ids.specs.declared.entry_marks.EntryMarks.{EntryMarks}
-use Rattle.conversation_open.specs.Marked.{has_among, has_number, set_of, earlier_of, of_kind, KeepsBoth, IsBothWithout, IsNotedAs, IsSameBothBut}
-use Rattle.conversation_open.specs.Open.{among_has, among_is_due, is_among, is_due_by, AreFixedBehind, AreFixedBetween, AreMarked, AreUncancelled, IsIndexed, IsNoneBetween, IsNoneBehind, and_owed, and_removed}
+use Rattle.conversation_open.specs.Marked.{has_among, set_of, earlier_of, of_kind, KeepsBoth, IsBothWithout, IsNotedAs, IsSameBothBut}
+use Rattle.conversation_contents.specs.Numbers.{has_number}
+use Rattle.conversation_open.specs.Open.{among_has, among_is_due, is_among, is_due_by, AreFixedBehind, AreFixedBetween, AreMarked, AreUncancelled, IsIndexed, IsNoneBetween, IsNoneBehind}
+use Rattle.conversation_contents.specs.Settled.{and_owed, and_removed}
 use Rattle.conversation_open.specs.Within.{AreMarkedWithin, IsIndexedWithin}
 use Rattle.conversation_open.specs.declared.among.Among.{Among}
 use Rattle.conversation_open.specs.declared.among.Among.TheVariants.{Singles, Batches, All}
@@ -17,7 +19,8 @@ use Rattle.conversation_open.specs.declared.index.Index.{Index}
 use Rattle.conversation_open.specs.declared.marked_contents.MarkedContents.{MarkedContents}
 use Rattle.conversation_open.specs.declared.marked_contents.Which.{Which}
 use Rattle.conversation_open.specs.declared.marked_contents.Which.TheVariants.{Any, Uncancelled}
-use Rattle.conversation_open.proofs.Noting.{and_no, either_false}
+use Rattle.conversation_open.proofs.Noting.{and_no}
+use Rattle.conversation_contents.proofs.Cases.{either_false}
 use Rattle.conversation_open.proofs.Entries.{owed_marks, owed_requests, bare_marks, bare_requests, removed_none, removed_marks, removed_requests, cancelled_marks, cancelled_requests, lost_cancelled, uncancelled}
 use Rattle.conversation_open.proofs.EachKind.{noted_singles, noted_batches, kept_singles, kept_batches, same_singles, same_batches, gone_singles, gone_batches}
 use Rattle.conversation_open.proofs.Standing.{at_changed, stands_come, stands_gone, stands_less, stands_more, stands_left, stands_none, taken_back, within_noted, within_changed}

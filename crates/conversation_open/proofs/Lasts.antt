@@ -6,7 +6,8 @@ use Rattle.std.specs.Option.{option_map_or}
 use Rattle.std.proofs.lemmas.Bool.{eqb-true, ltb-true, false_from_ne_true}
 use Rattle.number_windows.specs.Numbered.{at, without, changed_at, next_number, first_number, Above, Below, Ascending}
 use Rattle.number_windows.proofs.Numbered.{apart_after}
-use Rattle.conversation_open.specs.Open.{contents_of, last_number, is_open_at, and_owed}
+use Rattle.conversation_open.specs.Open.{contents_of, last_number, is_open_at}
+use Rattle.conversation_contents.specs.Settled.{and_owed}
 use Rattle.conversation_rules.specs.Dues.{owed_more, closed, is_open}
 use Rattle.conversation_rules.specs.Owed.{Owed, Due}
 
@@ -116,16 +117,3 @@ first_there n (e ∷ es) is = let same : n ≡ e.0 = cc in ap (λ b. is_some (co
 pub first_none : (es : List (ℕ × Due)) → None ≡ first_number es → None ≡ last_number es
 first_none [] is = refl
 first_none (e ∷ es) is = cc
-
-there_by : {X : Type 0} (n : ℕ) (e : ℕ × X) (es : List (ℕ × X)) (b : Bool) → (after : ℕ) → Some n ≡ option_map (λ x. x.0) (cond b (Some e) (find (λ x. nat_lt after x.0) es)) →
-    (Some n ≡ next_number after es → is_some (at n es) ≡ true) → is_some (at n (e ∷ es)) ≡ true
-there_by n e es true after is rest = let same : n ≡ e.0 = cc in ap (λ b. is_some (cond b (Some e.1) (at n es))) (eq-eqb n e.0 same)
-there_by n e es false after is rest = later (n == e.0) (rest is)
-  where
-    later : (b : Bool) → is_some (at n es) ≡ true → is_some (cond b (Some e.1) (at n es)) ≡ true
-    later true it = refl
-    later false it = it
-
-pub next_there : {X : Type 0} (after n : ℕ) (es : List (ℕ × X)) → Some n ≡ next_number after es → is_some (at n es) ≡ true
-next_there after n [] is = cc
-next_there after n (e ∷ es) is = there_by n e es (nat_lt after e.0) after is (λ rest. next_there after n es rest)

@@ -2,14 +2,8 @@ pub mod Changed
 pub mod EachKind
 pub mod Entries
 pub mod Indexed
-pub mod Indexes
 pub mod Lasts
-pub mod Lists
 pub mod Noting
-pub mod OwedSteps
-pub mod Pairs
-pub mod Places
 pub mod StandIns
 pub mod Standing
-pub mod Told
 pub mod Uncancelled

@@ -2,22 +2,15 @@
 use Rattle.std.proofs.Common.{◌≡◌, ◌<◌, ◌+◌, ℕ, length, drop, get_or, drop-cons, add-one, ◌==◌, ◌&&◌, ◌||◌, Bool, true, false, not, if◌then◌else◌, List, ◌∷◌, Result, Ok, Err, OnOk, OnErr, refl, ap, sym, subst, ◌∙◌, eq-eqb}
 use Rattle.std.proofs.lemmas.Bool.{eqb-true}
 use Rattle.std.specs.List.{list_any}
-use Rattle.conversation_open.specs.Marked.{has_number, Keeps, IsSameButUnder, IsWithout, StandsUnder}
-use Rattle.conversation_open.specs.declared.numbers_by_mark.NumbersByMark.{NumbersByMark}
+use Rattle.conversation_contents.specs.Numbers.{has_number, Keeps}
+use Rattle.conversation_open.specs.Marked.{IsSameButUnder, IsWithout, StandsUnder}
+use Rattle.conversation_contents.specs.declared.numbers_by_mark.NumbersByMark.{NumbersByMark}
 use Rattle.conversation_ids.specs.OwedMarks.{unreadable_mark, huge_mark, batch_mark, content_has}
 use Rattle.conversation_rules.specs.Owed.{Owed, Due}
 
 pub and_no : (a : Bool) → (a && false) ≡ false
 and_no true = refl
 and_no false = refl
-
-pub either_false : (a b : Bool) → (a || b) ≡ false → (a ≡ false) × (b ≡ false)
-either_false true b none = absurd (let e : true ≡ false = none in cc)
-either_false false b none = (refl, none)
-
-pub either_of : (a b : Bool) (P : Type 0) → (a || b) ≡ true → (a ≡ true → P) → (b ≡ true → P) → P
-either_of true b P is first second = first refl
-either_of false b P is first second = second is
 
 -- ---- one mark
 

@@ -40,18 +40,6 @@ same_all n (e ∷ es) = ap (λ x. x ∷ changed_at n (λ x. x) es) (stays (n == 
 pub put_same : {X : Type 0} (n : ℕ) (v s w : X) (es : List (ℕ × X)) → Ascending es → at n es ≡ Some v → w ≡ v → changed_at n (λ _. w) (changed_at n (λ _. s) es) ≡ es
 put_same n v s w es order there is = put_back n (λ x. x) v s w es order there is ∙ same_all n es
 
-pub if_ok : {X E P Q : Type 0} (r : Result X E) → (P → Q) → OnOk r P → OnOk r Q
-if_ok (Ok x) f p = f p
-if_ok (Err e) f p = tt
-
-pub if_err : {X E P Q : Type 0} (r : Result X E) → (P → Q) → OnErr r P → OnErr r Q
-if_err (Ok x) f p = tt
-if_err (Err e) f p = f p
-
-pub on_err : {X E P : Type 0} (r : Result X E) → P → OnErr r P
-on_err (Ok x) p = tt
-on_err (Err e) p = p
-
 -- what holds of the entries before and behind, where one of them stands
 pub either_entries : {X E : Type 0} {Y : Type 0} (r : Result X E) (P : List Y → Type 0) (was now then : List Y) → OnOk r (now ≡ then) → OnErr r (now ≡ was) → P then → P was → P now
 either_entries (Ok x) P was now then ok err behind before = subst P (sym ok) behind

@@ -5,11 +5,12 @@ use Rattle.std.proofs.lemmas.Bool.{eqb-true}
 use Rattle.number_windows.specs.Numbered.{at, without, changed_at}
 use Rattle.number_windows.proofs.Numbered.{unchanged}
 use Rattle.number_windows.proofs.Rows.{at_come, at_gone, at_replaced}
-use Rattle.conversation_open.specs.Marked.{has_number, Keeps, IsSameButUnder, IsWithout, StandsUnder}
+use Rattle.conversation_contents.specs.Numbers.{has_number, Keeps}
+use Rattle.conversation_open.specs.Marked.{IsSameButUnder, IsWithout, StandsUnder}
 use Rattle.conversation_open.proofs.Noting.{and_no}
 use Rattle.conversation_open.specs.Open.{StandAs}
 use Rattle.conversation_open.specs.Within.{StandWithin}
-use Rattle.conversation_open.specs.declared.numbers_by_mark.NumbersByMark.{NumbersByMark}
+use Rattle.conversation_contents.specs.declared.numbers_by_mark.NumbersByMark.{NumbersByMark}
 use Rattle.conversation_rules.specs.Owed.{Due}
 
 -- ---- contents change at one number

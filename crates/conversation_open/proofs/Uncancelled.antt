@@ -6,9 +6,11 @@ use Rattle.number_windows.specs.Numbered.{at, without, changed_at}
 use Rattle.number_windows.proofs.Rows.{at_come, at_gone}
 use Rattle.conversation_ids.specs.Marks.{mark_of}
 use Rattle.conversation_ids.specs.OwedMarks.{has_mark, entry_has, content_has, due_has, request_has, uncancelled_has}
-use Rattle.conversation_open.specs.Open.{is_due_by, is_uncancelled_if_due, AreUncancelled, and_owed, and_removed}
+use Rattle.conversation_open.specs.Open.{is_due_by, is_uncancelled_if_due, AreUncancelled}
+use Rattle.conversation_contents.specs.Settled.{and_owed, and_removed}
 use Rattle.conversation_open.proofs.Entries.{cancelled_before, parts_of, same_found, seen_by}
-use Rattle.conversation_open.proofs.Noting.{and_no, either_false}
+use Rattle.conversation_open.proofs.Noting.{and_no}
+use Rattle.conversation_contents.proofs.Cases.{either_false}
 use Rattle.conversation_open.proofs.Standing.{at_changed}
 use Rattle.conversation_reading.specs.declared.entry.WrittenId.{WrittenId}
 use Rattle.conversation_rules.specs.Dues.{cancelled, cancelled_in}

@@ -1,5 +1,3 @@
-pub mod Entries
-pub mod Left
 pub mod Lending
 pub mod Marked
 pub mod Open

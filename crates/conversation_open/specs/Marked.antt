@@ -1,30 +1,13 @@
--- Numbers by marks.
+-- By which marks contents stand in an index.
 use Rattle.std.specs.Prelude.{ℕ, ◌≡◌, ◌==◌, ◌&&◌, ◌||◌, not, Bool, true, false, Option, Some, None, min}
-use Rattle.std.specs.Ordering.{nat_cmp, ordering_then}
-use Rattle.std.specs.declared.cmp.Ordering.{Ordering}
-use Rattle.std.specs.BTreeSet as sorted
+use Rattle.conversation_contents.specs.Numbers.{has_number, Keeps}
+use Rattle.conversation_contents.specs.declared.numbers_by_mark.NumbersByMark.{NumbersByMark}
 use Rattle.conversation_open.specs.declared.among.Among.{Among}
 use Rattle.conversation_open.specs.declared.among.Among.TheVariants.{Singles, Batches, All}
 use Rattle.conversation_open.specs.declared.index.Index.{Index}
 use Rattle.conversation_open.specs.declared.marked_contents.MarkedContents.{MarkedContents}
 use Rattle.conversation_open.specs.declared.marked_contents.Which.{Which}
 use Rattle.conversation_open.specs.declared.marked_contents.Which.TheVariants.{Any, Uncancelled}
-use Rattle.conversation_open.specs.declared.numbers_by_mark.NumbersByMark.{NumbersByMark}
-
-abbrev pub pair_cmp : ℕ × ℕ → ℕ × ℕ → Ordering
-pair_cmp a b = ordering_then (nat_cmp a.0 b.0) (nat_cmp a.1 b.1)
-
--- whether this number stands there under this mark
-abbrev pub has_number : NumbersByMark → ℕ → ℕ → Bool
-has_number index mark number = sorted.contains pair_cmp index.pairs (mark, number)
-
--- each number that was there still is
-abbrev pub Keeps : NumbersByMark → NumbersByMark → Type 0
-Keeps now was = (mark number : ℕ) → has_number was mark number ≡ true → has_number now mark number ≡ true
-
--- but for this number nothing has changed
-abbrev pub IsSameBut : ℕ → NumbersByMark → NumbersByMark → Type 0
-IsSameBut number now was = (mark n : ℕ) → (number == n) ≡ false → has_number now mark n ≡ has_number was mark n
 
 -- a number stands under each mark of a kind
 abbrev pub StandsUnder : (ℕ → Bool) → ℕ → NumbersByMark → Type 0

@@ -1,17 +1,18 @@
 -- Contents on which something is owed, by numbers that ascend, and their index.
-use Rattle.std.specs.Prelude.{ℕ, suc, ◌≡◌, ◌<◌, ◌==◌, ◌&&◌, ◌||◌, ◌++◌, not, nat_lt, nat_le, length, remove, slice_get, List, [], ◌∷◌, map, filter, Bool, true, false, Option, Some, None, if◌then◌else◌}
-use Rattle.std.specs.List.{list_all, list_any, position_or_len}
+use Rattle.std.specs.Prelude.{ℕ, suc, ◌≡◌, ◌<◌, ◌&&◌, ◌||◌, not, nat_le, List, [], ◌∷◌, map, Bool, true, false, Option, Some, None, if◌then◌else◌}
+use Rattle.std.specs.List.{list_all, list_any}
 use Rattle.std.specs.Option.{option_map_or}
-use Rattle.conversation_open.specs.Marked.{has_number}
+use Rattle.conversation_contents.specs.Left.{values_of}
+use Rattle.conversation_contents.specs.Numbers.{has_number}
+use Rattle.conversation_contents.specs.Settled.{and_removed, is_empty}
+use Rattle.conversation_contents.specs.declared.numbers_by_mark.NumbersByMark.{NumbersByMark}
+use Rattle.conversation_ids.specs.OwedMarks.{due_has, has_mark, uncancelled_has}
 use Rattle.conversation_open.specs.declared.among.Among.{Among}
 use Rattle.conversation_open.specs.declared.among.Among.TheVariants.{Singles, Batches, All}
 use Rattle.conversation_open.specs.declared.index.Index.{Index}
 use Rattle.conversation_open.specs.declared.marked_contents.MarkedContents.{MarkedContents}
-use Rattle.conversation_open.specs.declared.numbers_by_mark.NumbersByMark.{NumbersByMark}
 use Rattle.conversation_open.specs.declared.open_contents.OpenContents.{OpenContents}
-use Rattle.conversation_open.specs.declared.taken.Settled.{Settled}
-use Rattle.conversation_ids.specs.OwedMarks.{due_has, entry_has, has_mark, is_mark, marks_have, request_has, uncancelled_has}
-use Rattle.conversation_rules.specs.Dues.{fit_of, is_open, unanswered_of}
+use Rattle.conversation_rules.specs.Dues.{is_open, unanswered_of}
 use Rattle.conversation_rules.specs.Owed.{Owed, Due}
 use Rattle.conversation_rules.specs.declared.found.Unanswered.{Unanswered}
 use Rattle.number_windows.specs.Numbered.{at, without, changed_at, Above, Below}
@@ -22,7 +23,7 @@ open_entries contents = window_entries contents.dues
 
 -- the contents, the oldest first
 abbrev pub contents_of : List (ℕ × Due) → List Due
-contents_of entries = map (λ entry. entry.1) entries
+contents_of entries = values_of entries
 
 -- it is one of these, and has the mark
 abbrev pub among_has : Among → ℕ → Due → Bool
@@ -98,40 +99,6 @@ last_number (entry ∷ next ∷ entries) = last_number (next ∷ entries)
 abbrev pub is_open_at : ℕ → List (ℕ × Due) → Bool
 is_open_at number entries = option_map_or is_open (at number entries) true
 
--- one more entry is owed on a content
-abbrev pub and_owed : Owed → Due → Due
-and_owed owed due = record due { entries = due.entries ++ owed ∷ [] }
-
--- one less
-abbrev pub and_removed : ℕ → Due → Due
-and_removed place due = record due { entries = remove due.entries place }
-
-abbrev pub is_empty : Due → Bool
-is_empty due = length due.entries == 0
-
--- the place of the first entry of a content that passes a test, or behind all of them
-abbrev pub place_at : (Owed → Bool) → Option Due → ℕ
-place_at passes due = option_map_or (λ due. position_or_len passes due.entries) due 0
-
-abbrev pub owed_at : ℕ → Due → Option Owed
-owed_at place due = slice_get due.entries place
-
--- what is told of an entry that is taken off
-pub record IsSettled (due : Due) (place : ℕ) (settled : Settled) : Type 0 where
-  pub owed : Owed
-  pub there : owed_at place due ≡ Some owed
-  pub fit : settled.fit ≡ fit_of due owed
-  pub entry : (mark : ℕ) → marks_have settled.marks mark ≡ entry_has mark owed
-  pub request : (mark : ℕ) → is_mark settled.marks.request mark ≡ request_has mark owed
-  pub last : settled.is_last ≡ is_empty (and_removed place due)
-
--- of a content, or of none
-abbrev pub IsSettledAt : Option Due → ℕ → Option Settled → Type 0
-IsSettledAt None place None = Unit {0}
-IsSettledAt None place (Some settled) = ⊥
-IsSettledAt (Some due) place None = owed_at place due ≡ None
-IsSettledAt (Some due) place (Some settled) = IsSettled due place settled
-
 -- a content goes once the last of its entries does
 abbrev pub settled_at : ℕ → ℕ → List (ℕ × Due) → List (ℕ × Due)
 settled_at number place entries =
@@ -141,10 +108,6 @@ settled_at number place entries =
 -- those up to a number are changed
 abbrev pub changed_up_to : ℕ → (Due → Due) → List (ℕ × Due) → List (ℕ × Due)
 changed_up_to number change entries = map (λ entry. (entry.0, (if nat_le entry.0 number then change entry.1 else entry.1))) entries
-
--- those behind a number
-abbrev pub behind : {X : Type 0} → ℕ → List (ℕ × X) → List (ℕ × X)
-behind number entries = filter (λ entry. nat_lt number entry.0) entries
 
 -- what must be answered of a content, and isn't
 abbrev pub unanswered_at : ℕ → List (ℕ × Due) → List Unanswered

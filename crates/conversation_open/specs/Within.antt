@@ -3,11 +3,11 @@ use Rattle.std.specs.Prelude.{ℕ, suc, ◌≡◌, ◌==◌, ◌&&◌, ◌||◌,
 use Rattle.std.specs.Option.{option_map_or}
 use Rattle.conversation_ids.specs.OwedMarks.{is_mark, marks_have, due_has, uncancelled_has}
 use Rattle.conversation_ids.specs.declared.entry_marks.EntryMarks.{EntryMarks}
-use Rattle.conversation_open.specs.Marked.{has_number}
+use Rattle.conversation_contents.specs.Numbers.{has_number}
 use Rattle.conversation_open.specs.Open.{open_entries, AreUncancelled}
 use Rattle.conversation_open.specs.declared.index.Index.{Index}
 use Rattle.conversation_open.specs.declared.marked_contents.MarkedContents.{MarkedContents}
-use Rattle.conversation_open.specs.declared.numbers_by_mark.NumbersByMark.{NumbersByMark}
+use Rattle.conversation_contents.specs.declared.numbers_by_mark.NumbersByMark.{NumbersByMark}
 use Rattle.conversation_open.specs.declared.open_contents.OpenContents.{OpenContents}
 use Rattle.conversation_rules.specs.Owed.{Due}
 use Rattle.number_windows.specs.Numbered.{at, Above, Below}

@@ -2,13 +2,12 @@
 
 ghost use Rattle.std.specs.Prelude.{◌≡◌, OnOk, OnErr};
 ghost use Rattle.conversation_ids.specs.Ways.{fits};
-ghost use Rattle.conversation_open.specs.Open.{IsSettledAt, and_owed, and_removed, place_at};
+ghost use Rattle.conversation_contents.specs.Settled.{IsSettledAt, and_owed, and_removed, place_at};
 ghost use Rattle.conversation_rules.specs.Dues.{cancelled_in};
 ghost use Rattle.number_windows.specs.Numbered.{at, changed_at};
 ghost use Rattle.number_windows.specs.Windows.{window_entries, IsWindow};
 
-use crate::due::Due;
-use crate::taken::Settled;
+use conversation_contents::{Due, Settled};
 use conversation_ids::{Owed, Way};
 use conversation_reading::WrittenId;
 use number_windows::NumberWindow;

@@ -5,11 +5,12 @@ ghost use Rattle.std.specs.Prelude.{◌≡◌, ◌<◌, ◌&&◌, ℕ, not, fals
 ghost use Rattle.std.specs.Borrow.{sem};
 ghost use Rattle.conversation_ids.specs.OwedMarks.{content_has, due_has, is_mark, marks_have, uncancelled_has};
 ghost use Rattle.conversation_open.specs.Lending.{LendsKind};
-ghost use Rattle.conversation_open.specs.Marked.{has_among, has_number, earlier_of, of_kind, KeepsBoth, IsBothWithout, IsNotedAs, IsSameBothBut};
+ghost use Rattle.conversation_open.specs.Marked.{has_among, earlier_of, of_kind, KeepsBoth, IsBothWithout, IsNotedAs, IsSameBothBut};
+ghost use Rattle.conversation_contents.specs.Numbers.{has_number};
 
 use crate::among::Among;
-use crate::due::Due;
 use crate::marked_contents::{MarkedContents, Which};
+use conversation_contents::Due;
 use conversation_ids::EntryMarks;
 use std::alloc::{AllocError, Global};
 

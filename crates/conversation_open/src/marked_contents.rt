@@ -3,11 +3,11 @@
 
 ghost use Rattle.std.specs.Prelude.{◌≡◌, ◌<◌, ◌&&◌, ℕ, not, false, OnOk, MatchOption};
 ghost use Rattle.conversation_ids.specs.OwedMarks.{content_has, due_has, is_mark, marks_have, uncancelled_has};
-ghost use Rattle.conversation_open.specs.Marked.{has_number, set_of, KeepsBoth, IsBothWithout, IsNotedAs, IsSameBothBut};
+ghost use Rattle.conversation_contents.specs.Numbers.{has_number};
+ghost use Rattle.conversation_open.specs.Marked.{set_of, KeepsBoth, IsBothWithout, IsNotedAs, IsSameBothBut};
 
-use crate::due::Due;
 use crate::marking;
-use crate::numbers_by_mark::NumbersByMark;
+use conversation_contents::{Due, NumbersByMark};
 use conversation_ids::EntryMarks;
 use std::alloc::{AllocError, Global};
 

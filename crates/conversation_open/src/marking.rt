@@ -2,11 +2,11 @@
 
 ghost use Rattle.std.specs.List.{list_any};
 ghost use Rattle.std.specs.Prelude.{◌≡◌, ◌==◌, ◌&&◌, ℕ, OnOk, not, true, false};
-ghost use Rattle.conversation_open.specs.Marked.{has_number, IsSameButUnder, IsWithout, Keeps, StandsUnder};
+ghost use Rattle.conversation_contents.specs.Numbers.{has_number, Keeps};
+ghost use Rattle.conversation_open.specs.Marked.{IsSameButUnder, IsWithout, StandsUnder};
 ghost use Rattle.conversation_ids.specs.OwedMarks.{content_has, entry_has, due_has, is_mark, marks_have, uncancelled_has};
 
-use crate::due::Due;
-use crate::numbers_by_mark::NumbersByMark;
+use conversation_contents::{Due, NumbersByMark};
 use conversation_ids::{EntryMarks, batch_mark, huge_mark, unreadable_mark};
 use std::alloc::AllocError;
 

@@ -1,6 +1,7 @@
 ghost use Rattle.std.specs.Prelude.{ℕ, ◌≡◌, ◌<◌, ◌++◌, ◌∷◌, ◌&&◌, [], map, length, not, true, false, Some, is_some, if◌then◌else◌, OnOk, OnErr, MatchOption, option_and_then, option_copied};
 ghost use Rattle.std.specs.Option.{option_map_or};
-ghost use Rattle.conversation_open.specs.Open.{open_entries, contents_of, among_has, among_is_due, is_uncancelled_if_due, AreFixedBetween, AreFixedBehind, IsOpen, IsNoneBetween, IsNoneBehind, IsSettledAt, last_number, is_open_at, is_empty, and_owed, and_removed, place_at, settled_at, unanswered_at};
+ghost use Rattle.conversation_open.specs.Open.{open_entries, contents_of, among_has, among_is_due, is_uncancelled_if_due, AreFixedBetween, AreFixedBehind, IsOpen, IsNoneBetween, IsNoneBehind, last_number, is_open_at, settled_at, unanswered_at};
+ghost use Rattle.conversation_contents.specs.Settled.{IsSettledAt, is_empty, and_owed, and_removed, place_at};
 ghost use Rattle.conversation_open.specs.Within.{IsOpenWithin};
 ghost use Rattle.conversation_ids.specs.OwedMarks.{entry_has, is_mark, marks_have, request_has};
 ghost use Rattle.conversation_ids.specs.Ways.{fits};
@@ -9,11 +10,10 @@ ghost use Rattle.conversation_rules.specs.Owed.{Due as DueValue, new_due, unread
 ghost use Rattle.number_windows.specs.Numbered.{at, without, changed_at};
 
 use crate::among::Among;
-use crate::due::Due;
 use crate::in_window::{cancel_at, push_at, take_at};
 use crate::index::Index;
 use crate::marked_contents::Which;
-use crate::taken::Settled;
+use conversation_contents::{Due, Settled};
 use conversation_ids::{EntryMarks, Owed, Way, mark_of};
 use conversation_reading::WrittenId;
 use conversation_rules::{Fit, Unanswered};

@@ -1,6 +1,6 @@
 use Rattle.std.proofs.Common.{◌∙◌, ap, map}
 use Rattle.std.specs.List.{slice_get}
-use Rattle.conversation_open.proofs.Lists.{any-left}
+use Rattle.conversation_contents.proofs.Lists.{any-left}
 use Rattle.conversation_dues.proofs.arrays.any_must.Goals as goal
 
 pub returns : goal.returns

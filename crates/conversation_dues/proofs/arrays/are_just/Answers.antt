@@ -2,10 +2,10 @@ use Rattle.std.proofs.Common.{◌∙◌, ap, subst, map}
 use Rattle.std.specs.Prelude.{not}
 use Rattle.std.specs.List.{slice_get}
 use Rattle.conversation_dues.specs.Left.{choice, all_taken, ids_of, IsTaken, expects_any}
-use Rattle.conversation_open.specs.Left.{places_of}
+use Rattle.conversation_contents.specs.Left.{places_of}
 use Rattle.conversation_dues.specs.declared.arrays.Which.TheVariants.{Expected}
 use Rattle.conversation_dues.proofs.Left.{not_these, if_none_left, none_taken, some_taken}
-use Rattle.conversation_open.proofs.Lists.{any-left}
+use Rattle.conversation_contents.proofs.Lists.{any-left}
 use Rattle.conversation_dues.proofs.arrays.are_just.Goals as goal
 
 pub returns-then-not-take_all : goal.returns-then-not-take_all

@@ -4,7 +4,7 @@ use Rattle.conversation_rules.specs.Dues.{fits_of, in_order, array_fits}
 use Rattle.conversation_rules.specs.Owed.{Owed}
 use Rattle.conversation_rules.specs.declared.found.Fit.{Fit}
 use Rattle.conversation_dues.specs.Left.{ids_of, left_of}
-use Rattle.conversation_open.specs.Left.{IsLeftOf, places_of}
+use Rattle.conversation_contents.specs.Left.{IsLeftOf, places_of}
 use Rattle.conversation_dues.specs.declared.arrays.Which.TheVariants.{Named, Nulls}
 use Rattle.conversation_dues.proofs.Fits.{array_fits-is, if_ok_items}
 use Rattle.conversation_dues.proofs.arrays.array_fits.Goals as goal

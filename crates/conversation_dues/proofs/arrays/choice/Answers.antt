@@ -1,5 +1,5 @@
 use Rattle.conversation_dues.proofs.Left.{expected_choice}
-use Rattle.conversation_open.specs.Left.{index_in}
+use Rattle.conversation_contents.specs.Left.{index_in}
 use Rattle.conversation_dues.proofs.arrays.choice.Goals as goal
 
 pub returns-in-Expected : goal.returns-in-Expected

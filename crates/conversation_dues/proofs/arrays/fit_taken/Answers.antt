@@ -2,10 +2,9 @@ use Rattle.std.proofs.Common.{◌∙◌, ap, sym, map, Some, option_map}
 use Rattle.std.specs.Prelude.{option_and_then}
 use Rattle.std.specs.List.{slice_get}
 use Rattle.conversation_rules.specs.Dues.{fit_of}
-use Rattle.conversation_open.specs.Left.{index_of}
+use Rattle.conversation_contents.specs.Left.{index_of, left_entries, places_of}
 use Rattle.conversation_dues.specs.Left.{left_after}
-use Rattle.conversation_open.specs.Left.{left_entries, places_of}
-use Rattle.conversation_open.proofs.Lists.{at-left, remove-left}
+use Rattle.conversation_contents.proofs.Lists.{at-left, remove-left}
 use Rattle.conversation_dues.proofs.arrays.fit_taken.Goals as goal
 
 pub returns-in-Some-take-clause-left : goal.returns-in-Some-take-clause-left

@@ -2,10 +2,10 @@ use Rattle.std.proofs.Common.{◌∙◌, ap, subst, map}
 use Rattle.std.specs.Prelude.{nat_le}
 use Rattle.std.specs.List.{slice_get}
 use Rattle.conversation_dues.specs.Left.{choice, all_taken, ids_of, IsTaken}
-use Rattle.conversation_open.specs.Left.{places_of}
+use Rattle.conversation_contents.specs.Left.{places_of}
 use Rattle.conversation_dues.specs.declared.arrays.Which.TheVariants.{Named, Nulls}
 use Rattle.conversation_dues.proofs.Left.{cannot_named, cannot_nulls, can_be, none_taken, some_taken}
-use Rattle.conversation_open.proofs.Lists.{count-left}
+use Rattle.conversation_contents.proofs.Lists.{count-left}
 use Rattle.conversation_dues.proofs.arrays.leave_no_request.Goals as goal
 
 pub returns-then-not-take_all : goal.returns-then-not-take_all

@@ -3,7 +3,7 @@ use Rattle.std.specs.List.{slice_get}
 use Rattle.conversation_dues.proofs.Fits.{told_one}
 use Rattle.conversation_dues.proofs.Left.{ids_from}
 use Rattle.conversation_dues.specs.Left.{ids_of, left_of}
-use Rattle.conversation_open.specs.Left.{places_of}
+use Rattle.conversation_contents.specs.Left.{places_of}
 use Rattle.conversation_rules.specs.Dues.{fits_of}
 use Rattle.conversation_dues.proofs.arrays.put_fits.Goals as goal
 

@@ -3,7 +3,7 @@ use Rattle.std.specs.List.{slice_get}
 use Rattle.conversation_rules.specs.Dues.{fits_of}
 use Rattle.conversation_rules.specs.Owed.{Owed}
 use Rattle.conversation_dues.specs.Left.{ids_of, left_of}
-use Rattle.conversation_open.specs.Left.{IsFindable, IsLeftOf, places_of}
+use Rattle.conversation_contents.specs.Left.{IsFindable, IsLeftOf, places_of}
 use Rattle.conversation_dues.proofs.Fits.{IsToldTo}
 use Rattle.conversation_dues.proofs.arrays.put_fits.Given as goal
 

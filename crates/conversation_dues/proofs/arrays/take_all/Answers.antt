@@ -2,7 +2,7 @@ use Rattle.std.proofs.Common.{◌∷◌, [], ◌+◌, ◌∙◌, ap, sym, subst,
 use Rattle.std.specs.List.{slice_get}
 use Rattle.conversation_reading.specs.declared.entry.WrittenId.{WrittenId}
 use Rattle.conversation_dues.specs.Left.{choice, all_taken, ids_of, IsTaken}
-use Rattle.conversation_open.specs.Left.{places_of}
+use Rattle.conversation_contents.specs.Left.{places_of}
 use Rattle.conversation_dues.proofs.Left.{going, stopped, ids_from}
 use Rattle.conversation_dues.proofs.arrays.take_all.Goals as goal
 

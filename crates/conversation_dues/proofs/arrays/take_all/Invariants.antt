@@ -2,7 +2,7 @@ use Rattle.std.proofs.Common.{List, drop}
 use Rattle.std.specs.List.{slice_get}
 use Rattle.conversation_rules.specs.Owed.{Owed}
 use Rattle.conversation_dues.specs.Left.{all_taken, choice, ids_of}
-use Rattle.conversation_open.specs.Left.{IsFindable, IsLeftOf, places_of}
+use Rattle.conversation_contents.specs.Left.{IsFindable, IsLeftOf, places_of}
 use Rattle.conversation_dues.proofs.Left.{OnTheWay}
 use Rattle.conversation_dues.proofs.arrays.take_all.Given as goal
 

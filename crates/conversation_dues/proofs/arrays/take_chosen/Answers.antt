@@ -1,7 +1,6 @@
 use Rattle.std.specs.List.{slice_get}
-use Rattle.conversation_open.specs.Left.{index_of}
+use Rattle.conversation_contents.specs.Left.{index_of, left_entries, places_of}
 use Rattle.conversation_dues.specs.Left.{choice}
-use Rattle.conversation_open.specs.Left.{left_entries, places_of}
 use Rattle.conversation_dues.proofs.Left.{chosen}
 use Rattle.conversation_dues.proofs.arrays.take_chosen.Goals as goal
 

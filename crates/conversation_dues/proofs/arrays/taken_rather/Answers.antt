@@ -1,6 +1,5 @@
 use Rattle.std.proofs.Common.{◌∙◌, ap, sym}
-use Rattle.conversation_open.specs.Left.{index_of}
-use Rattle.conversation_open.specs.Left.{index_in, left_entries}
+use Rattle.conversation_contents.specs.Left.{index_of, index_in, left_entries}
 use Rattle.conversation_dues.proofs.Left.{rather-expected, rather-may}
 use Rattle.conversation_dues.proofs.arrays.taken_rather.Goals as goal
 

@@ -1,6 +1,6 @@
 use Rattle.std.proofs.Common.{◌∙◌, sym, None, Some}
 use Rattle.conversation_dues.specs.Answered.{is_answered}
-use Rattle.conversation_open.specs.Left.{index_of}
+use Rattle.conversation_contents.specs.Left.{index_of}
 use Rattle.conversation_dues.specs.declared.batches.Answer.TheVariants.{JustDue}
 use Rattle.conversation_dues.proofs.Firsts.{number_is}
 use Rattle.conversation_dues.proofs.Targeted.{none_named, due_target, left_target, if_ok_then}

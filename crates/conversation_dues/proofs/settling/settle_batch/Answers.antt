@@ -1,8 +1,8 @@
 use Rattle.std.proofs.Common.{◌≡◌, ◌∙◌, ap, sym, Some, option_map}
 use Rattle.std.specs.List.{slice_get}
 use Rattle.std.specs.Option.{option_and_then}
-use Rattle.conversation_open.proofs.Lists.{at_index, removed_is}
-use Rattle.conversation_open.specs.Left.{index_of}
+use Rattle.conversation_contents.proofs.Lists.{at_index, removed_is}
+use Rattle.conversation_contents.specs.Left.{index_of}
 use Rattle.conversation_open.specs.Open.{open_entries, contents_of}
 use Rattle.conversation_rules.specs.Dues.{array_target, array_fits, settled_batch}
 use Rattle.conversation_dues.proofs.settling.settle_batch.Goals as goal

@@ -1,8 +1,9 @@
 use Rattle.std.proofs.Common.{◌∙◌, ap}
 use Rattle.number_windows.specs.Numbered.{changed_at}
 use Rattle.number_windows.specs.Windows.{window_entries}
-use Rattle.conversation_open.specs.Open.{and_owed}
-use Rattle.conversation_open.proofs.StandIns.{put_back, put_same, none_there, if_ok, if_err}
+use Rattle.conversation_contents.specs.Settled.{and_owed}
+use Rattle.conversation_open.proofs.StandIns.{put_back, put_same, none_there}
+use Rattle.conversation_contents.proofs.Cases.{if_ok, if_err}
 use Rattle.conversation_open.proofs.in_window.push_at.Goals as goal
 
 pub returns-in-Ok-clause-ok : goal.returns-in-Ok-clause-ok

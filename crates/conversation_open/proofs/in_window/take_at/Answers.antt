@@ -3,7 +3,7 @@ use Rattle.number_windows.specs.Numbered.{at, changed_at}
 use Rattle.number_windows.specs.Windows.{window_entries}
 use Rattle.conversation_ids.specs.Ways.{fits}
 use Rattle.conversation_open.proofs.StandIns.{put_back, none_there}
-use Rattle.conversation_open.specs.Open.{IsSettledAt, and_removed, place_at}
+use Rattle.conversation_contents.specs.Settled.{IsSettledAt, and_removed, place_at}
 use Rattle.conversation_open.proofs.in_window.take_at.Goals as goal
 
 pub returns-in-Ok-clause-settled : goal.returns-in-Ok-clause-settled

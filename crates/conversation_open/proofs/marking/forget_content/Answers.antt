@@ -1,7 +1,8 @@
 use Rattle.std.proofs.Common.{◌==◌, ◌&&◌, ◌∙◌, not, ap}
 use Rattle.std.specs.List.{list_any}
 use Rattle.conversation_ids.specs.OwedMarks.{content_has, entry_has}
-use Rattle.conversation_open.specs.Marked.{has_number, IsWithout}
+use Rattle.conversation_contents.specs.Numbers.{has_number}
+use Rattle.conversation_open.specs.Marked.{IsWithout}
 use Rattle.conversation_open.proofs.Noting.{both_gone, without_content}
 use Rattle.conversation_open.proofs.marking.forget_content.Goals as goal
 

@@ -1,7 +1,7 @@
 use Rattle.std.proofs.Common.{◌≡◌, ◌==◌, ◌&&◌, not, ℕ, length}
 use Rattle.std.specs.List.{list_any}
 use Rattle.conversation_ids.specs.OwedMarks.{entry_has, request_has, uncancelled_has}
-use Rattle.conversation_open.specs.Marked.{has_number}
+use Rattle.conversation_contents.specs.Numbers.{has_number}
 use Rattle.conversation_open.proofs.marking.forget_entries.Given as goal
 
 -- without those that are left it is as without all

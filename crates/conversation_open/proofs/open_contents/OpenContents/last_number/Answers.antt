@@ -1,7 +1,7 @@
 use Rattle.std.proofs.Common.{◌<◌, ◌∙◌, sym, arith}
 use Rattle.conversation_open.specs.Open.{open_entries}
-use Rattle.conversation_open.proofs.Changed.{next_above}
-use Rattle.conversation_open.proofs.Lasts.{last_there, last_stands, first_there, next_there, first_none}
+use Rattle.conversation_contents.proofs.Behind.{next_above, next_there}
+use Rattle.conversation_open.proofs.Lasts.{last_there, last_stands, first_there, first_none}
 use Rattle.conversation_open.proofs.open_contents.OpenContents.last_number.Goals as goal
 
 pub returns-then-has : goal.returns-then-has

@@ -2,12 +2,13 @@ use Rattle.std.proofs.Common.{suc, subst, sym}
 use Rattle.number_windows.specs.Windows.{window_entries}
 use Rattle.number_windows.specs.Numbered.{Above, Below, at}
 use Rattle.number_windows.proofs.Numbered.{below_changed, above_changed}
-use Rattle.conversation_open.specs.Open.{open_entries, and_owed, AreUncancelled, IsIndexed}
+use Rattle.conversation_open.specs.Open.{open_entries, AreUncancelled, IsIndexed}
+use Rattle.conversation_contents.specs.Settled.{and_owed}
 use Rattle.conversation_open.specs.Within.{IsIndexedWithin}
 use Rattle.conversation_open.proofs.Entries.{parts_of}
 use Rattle.conversation_open.proofs.Indexed.{indexed_owed, within_owed}
 use Rattle.conversation_open.proofs.Lasts.{from_some}
-use Rattle.conversation_open.proofs.StandIns.{if_ok, if_err, on_err}
+use Rattle.conversation_contents.proofs.Cases.{if_ok, if_err, on_err}
 use Rattle.conversation_open.proofs.Uncancelled.{uncancelled_owed}
 use Rattle.conversation_open.proofs.open_contents.OpenContents.owe_under.Goals as goal
 

@@ -1,7 +1,9 @@
 use Rattle.std.proofs.Common.{◌<◌, ◌++◌, ◌∙◌, ap, sym, arith, append_assoc, append-nil}
 use Rattle.conversation_rules.specs.Dues.{unanswered}
-use Rattle.conversation_open.specs.Open.{open_entries, contents_of, behind, unanswered_at}
-use Rattle.conversation_open.proofs.Changed.{behind_none, behind_last, next_above, told_next}
+use Rattle.conversation_open.specs.Open.{open_entries, contents_of, unanswered_at}
+use Rattle.conversation_contents.specs.Left.{behind}
+use Rattle.conversation_contents.proofs.Behind.{behind_none, behind_last, next_above}
+use Rattle.conversation_open.proofs.Changed.{told_next}
 use Rattle.conversation_open.proofs.open_contents.OpenContents.put_unanswered.Goals as goal
 
 pub loop-number-init : goal.loop-number-init

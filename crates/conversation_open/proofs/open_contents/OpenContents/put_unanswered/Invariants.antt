@@ -1,5 +1,6 @@
 use Rattle.std.proofs.Common.{◌≡◌, ◌++◌, ◌-◌, ◌^◌}
-use Rattle.conversation_open.specs.Open.{open_entries, contents_of, behind}
+use Rattle.conversation_open.specs.Open.{open_entries, contents_of}
+use Rattle.conversation_contents.specs.Left.{behind}
 use Rattle.conversation_rules.specs.Dues.{unanswered}
 use Rattle.conversation_open.proofs.open_contents.OpenContents.put_unanswered.Given as goal
 

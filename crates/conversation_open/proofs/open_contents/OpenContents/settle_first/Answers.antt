@@ -3,8 +3,9 @@ use Rattle.std.specs.Option.{option_map_or}
 use Rattle.number_windows.specs.Numbered.{at, without, changed_at}
 use Rattle.conversation_ids.specs.Ways.{fits}
 use Rattle.conversation_open.proofs.Changed.{taken_off}
-use Rattle.conversation_open.proofs.Indexes.{settled_fit, settled_last, settled_none}
-use Rattle.conversation_open.specs.Open.{IsSettledAt, and_removed, is_empty, open_entries, place_at}
+use Rattle.conversation_contents.proofs.Indexes.{settled_fit, settled_last, settled_none}
+use Rattle.conversation_contents.specs.Settled.{IsSettledAt, and_removed, is_empty, place_at}
+use Rattle.conversation_open.specs.Open.{open_entries}
 use Rattle.conversation_open.proofs.open_contents.OpenContents.settle_first.Goals as goal
 
 pub returns-in-Some-clause-fit : goal.returns-in-Some-clause-fit

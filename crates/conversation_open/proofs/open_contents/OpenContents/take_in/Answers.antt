@@ -3,9 +3,10 @@ use Rattle.number_windows.specs.Windows.{window_entries}
 use Rattle.number_windows.specs.Numbered.{at, Above, Below}
 use Rattle.number_windows.proofs.Numbered.{below_changed, above_changed}
 use Rattle.conversation_ids.specs.Ways.{fits}
-use Rattle.conversation_open.specs.Open.{IsSettledAt, open_entries, and_removed, place_at}
+use Rattle.conversation_contents.specs.Settled.{IsSettledAt, and_removed, place_at}
+use Rattle.conversation_open.specs.Open.{open_entries}
 use Rattle.conversation_open.proofs.Indexed.{within_removed, indexed_same}
-use Rattle.conversation_open.proofs.Indexes.{settled_missing, settled_owed}
+use Rattle.conversation_contents.proofs.Indexes.{settled_missing, settled_owed}
 use Rattle.conversation_open.proofs.Uncancelled.{uncancelled_removed}
 use Rattle.conversation_open.proofs.open_contents.OpenContents.take_in.Goals as goal
 
