@@ -1,6 +1,7 @@
 pub mod Fitting
 pub mod TextPlaces
 pub mod HeadSteps
+mod LineFeeds
 pub mod FrameHeads
 pub mod FramePlaces
 pub mod FrameFollowing

@@ -9,6 +9,7 @@ mod frames;
 mod framing;
 mod law;
 mod line_cutter;
+mod line_feed;
 mod places;
 mod row;
 mod under_way;

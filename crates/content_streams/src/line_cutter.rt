@@ -8,6 +8,7 @@ ghost use Rattle.content_streams.specs.Inner.Cutting.{Within, Over, IsWithin, en
 ghost use Rattle.content_streams.specs.Inner.Cutters.{LinesStartAt};
 ghost use Rattle.content_streams.specs.Inner.Rows.{BeginsWith};
 
+use crate::line_feed::place_of_lf;
 use json_values::Items;
 use lsp_frames::Frame;
 use std::alloc::{AllocError, Global};
@@ -290,12 +291,6 @@ fn push_content(
     })?;
     places.push_back(place)?;
     Ok(())
-}
-
-fn place_of_lf(bytes: &[u8]) -> Option<usize>
-    ensures { result ≡ position is_lf bytes.now }
-{
-    bytes.iter().position(|b| *b == b'\n')
 }
 
 fn ends_in_cr(line: &[u8]) -> bool

@@ -4,6 +4,7 @@ ghost use Rattle.std.specs.Prelude.{◌≡◌, ◌≤◌, ◌+◌, ◌++◌, len
 ghost use Rattle.std.specs.VecDeque.{deque_len, deque_capacity};
 ghost use Rattle.content_streams.specs.Inner.Heads.{SmallFrames, at_start, behind_content, content_place, followed, head_bytes, stage_after, with_bytes};
 
+use crate::line_feed::place_of_lf;
 use lsp_frames::Frame;
 use std::collections::VecDeque;
 
@@ -125,10 +126,22 @@ fn head_bytes(stage: HeadStage, bytes: &[u8]) -> (usize, HeadStage)
     ensures most { result.0 ≤ length bytes.now }
 {
     let mut stage = stage;
-    for i in 0..bytes.len() {
+    let mut at = 0;
+    while at < bytes.len() {
         match stage {
-            HeadStage::Whole => return (i, stage),
-            _ => stage = stage.after(bytes[i]),
+            HeadStage::Whole => return (at, stage),
+            // Nearly all bytes of a head are here, so they are passed many at a time.
+            HeadStage::Line => match place_of_lf(&bytes[at..]) {
+                Some(end) => {
+                    at += end + 1;
+                    stage = HeadStage::LineStart;
+                }
+                None => return (bytes.len(), stage),
+            },
+            HeadStage::LineStart | HeadStage::Cr => {
+                stage = stage.after(bytes[at]);
+                at += 1;
+            }
         }
     }
     (bytes.len(), stage)

@@ -11,6 +11,9 @@ use conversation_reading::WrittenId;
 /// Marks are remainders by 2^64 - 1: a remainder by this number takes no call, and the library for C has none to make.
 const MOST_MARKS: u128 = 18_446_744_073_709_551_615;
 
+/// Ten times a smaller number, and what a byte is worth, is below `MOST_MARKS`.
+const FEW_DIGITS: u64 = 1_844_674_407_370_955_100;
+
 /// By which the mark of a text is multiplied before each byte.
 const TEXT_BASE: u128 = 1_099_511_628_211;
 
@@ -54,13 +57,12 @@ fn number_mark(number: &str) -> u128
 {
     let (_, before, fraction, _) = parts_of(number);
     let (digits, behind, more, _) = without_zeros(before, fraction);
-    (remainder_of(digits, behind) + more) % MOST_MARKS
+    (u128::from(remainder_of(digits, behind)) + more) % MOST_MARKS
 }
 
 /// What is left of the number of these digits, which come in two parts.
-fn remainder_of(digits: &[u8], behind: &[u8]) -> u128
-    ensures value { result ≡ number_of (digits.now ++ behind.now) % most_marks }
-    ensures bound { result < 2 ^ 64 }
+fn remainder_of(digits: &[u8], behind: &[u8]) -> u64
+    ensures { result ≡ number_of (digits.now ++ behind.now) % most_marks }
 {
     let mut number = 0;
     for digit in digits {
@@ -72,10 +74,13 @@ fn remainder_of(digits: &[u8], behind: &[u8]) -> u128
     number
 }
 
-fn remainder_with(number: u128, digit: u8) -> u128
-    requires { number < 2 ^ 64 }
-    ensures value { result ≡ (10 * number + (digit - 48)) % most_marks }
-    ensures bound { result < 2 ^ 64 }
+/// Few ids have so many digits that there is anything to divide.
+#[inline(always)]
+fn remainder_with(number: u64, digit: u8) -> u64
+    ensures { result ≡ (10 * number + (digit - 48)) % most_marks }
 {
-    (number * 10 + u128::from(worth(digit))) % MOST_MARKS
+    if number < FEW_DIGITS {
+        return number * 10 + worth(digit);
+    }
+    ((u128::from(number) * 10 + u128::from(worth(digit))) % MOST_MARKS) as u64
 }

@@ -5,7 +5,7 @@ ghost use Rattle.content_streams.specs.Streams.{next_placed, close_of};
 ghost use Rattle.conversation_entries.specs.Said.{said};
 ghost use Rattle.conversation_judge.specs.Said.{pair, next_findings, behind_next, stream_behind_next, ended_as, state};
 ghost use Rattle.conversation_rules.specs.Judging as rules;
-ghost use Rattle.conversation_rules.specs.Judging.{contents_findings, behind_contents, new_contents, all_taken, fault_findings, fed, wrote_findings, behind_wrote, ended_stream, unanswered_findings, maybe_answered, may_be_refused, when_refused, ended_findings, behind_ended};
+ghost use Rattle.conversation_rules.specs.Judging.{contents_findings, behind_contents, new_contents, all_taken, fault_findings, fed, wrote_findings, behind_wrote, ended_stream, unanswered_findings, maybe_answered, counted_as_refused, when_refused, ended_findings, behind_ended};
 
 use crate::answers::or_note;
 use crate::contents::{is_broken, take_content};
@@ -225,7 +225,7 @@ fn put_each_unanswered(
     requests: &[Unanswered],
 ) -> Result<(), AllocError>
     ensures { OnOk result (findings.new.items ≡ findings.old.items
-        ++ map (rules.unanswered_finding side how is_broken) (may_be_refused asker.now.refusals.refused 0
+        ++ map (rules.unanswered_finding side how is_broken) (counted_as_refused asker.now.refusals.refused 0
         (map (maybe_answered asker.now.unsure_up_to) requests.now))) }
 {
     let mut refused = asker.refusals.refused;

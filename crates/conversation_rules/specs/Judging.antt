@@ -170,14 +170,14 @@ counts_as_refused refused number request = request.may_be_refused && (not (refus
 abbrev pub when_refused : ℕ → Unanswered → Unanswered
 when_refused number request = if request.number == number then record request { may_be_answered = true } else request
 
-abbrev pub may_be_refused : ℕ → ℕ → List Unanswered → List Unanswered
-may_be_refused refused number [] = []
-may_be_refused refused number (request ∷ requests) =
-    if counts_as_refused refused number request then when_refused request.number request ∷ may_be_refused (refused - 1) request.number requests
-    else when_refused number request ∷ may_be_refused refused number requests
+abbrev pub counted_as_refused : ℕ → ℕ → List Unanswered → List Unanswered
+counted_as_refused refused number [] = []
+counted_as_refused refused number (request ∷ requests) =
+    if counts_as_refused refused number request then when_refused request.number request ∷ counted_as_refused (refused - 1) request.number requests
+    else when_refused number request ∷ counted_as_refused refused number requests
 
 abbrev pub left_unanswered : Speaker → List Unanswered
-left_unanswered asker = may_be_refused asker.refusals.refused 0 (map (maybe_answered asker.unsure_up_to) (unanswered asker.owed))
+left_unanswered asker = counted_as_refused asker.refusals.refused 0 (map (maybe_answered asker.unsure_up_to) (unanswered asker.owed))
 
 abbrev pub unanswered_findings : Protocol → Side → HowEnded → Pair → List Finding
 unanswered_findings protocol side how pair = if is_excused protocol side pair then [] else map (unanswered_finding side how (is_broken pair)) (left_unanswered pair.other)

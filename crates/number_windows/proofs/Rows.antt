@@ -46,6 +46,19 @@ changed_index n f (e ∷ es) (suc i) d order lt is =
     ap (λ t. e ∷ t) (changed_index n f es i d order.1 under is)
     ∙ sym (ap (λ b. (e.0, cond b (f e.1) e.1) ∷ changed_at n f es) (apart_after n e.0 (above_index n e es i d order.0 under is)))
 
+-- where the entry of i is left out, that of i + 1 stands at i; once that of i takes its place, that of i + 1 is left out
+
+pub next_up : {X : Type 0} (i : ℕ) (es : List X) (d : X) → suc i < length es → get_or (take i es ++ drop (suc i) es) i d ≡ get_or es (suc i) d
+next_up i [] d lt = absurd (omega arith)
+next_up zero (e ∷ es) d lt = refl
+next_up (suc i) (e ∷ es) d lt = next_up i es d (omega arith)
+
+pub moved_up : {X : Type 0} (i : ℕ) (es : List X) (d : X) → suc i < length es → set (take i es ++ drop (suc i) es) i (get_or es i d) ≡ take (suc i) es ++ drop (suc (suc i)) es
+moved_up i [] d lt = absurd (omega arith)
+moved_up zero (e ∷ []) d lt = absurd (omega arith)
+moved_up zero (e ∷ f ∷ es) d lt = refl
+moved_up (suc i) (e ∷ es) d lt = ap (λ t. e ∷ t) (moved_up i es d (omega arith))
+
 -- ---- a number that is missing
 
 pub at_over : {X : Type 0} (n m : ℕ) (es : List (ℕ × X)) → n ≤ m → Above m es → at n es ≡ None

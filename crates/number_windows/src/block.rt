@@ -1,6 +1,6 @@
 //! A few entries that stand side by side, with ascending numbers.
 
-ghost use Rattle.std.specs.Prelude.{◌≡◌, ℕ, ◌<◌, ◌≤◌, length, take, slice_index_or, Some, None, IfSome, IfNone, IfOk, IfErr, option_copied};
+ghost use Rattle.std.specs.Prelude.{◌≡◌, ℕ, ◌<◌, ◌≤◌, length, take, remove, slice_index_or, Some, None, IsSome, IfSome, IfNone, IfOk, IfErr, option_copied};
 ghost use Rattle.std.specs.VecDeque.{deque_len, deque_capacity};
 ghost use Rattle.number_windows.specs.Numbered.{at, without, changed_at, next_number, Below, Ascending};
 
@@ -80,8 +80,29 @@ pub fn take_out<T: Drop>(block: &mut VecDeque<(u64, T)>, number: u64) -> Option<
     ensures room { deque_capacity block.new ≡ deque_capacity block.old }
 {
     let index = place(block, number)?;
-    let (_, value) = block.remove(index)?;
+    let (_, value) = take_at(block, index)?;
     Some(value)
+}
+
+/// Takes the entry at this place out: at either end at once, and elsewhere by moving those in front of it up by one.
+/// `VecDeque::remove` moves the shorter side, by 12 KB of code for each type of value; a block has at most 32 entries, and
+/// most go from its front.
+fn take_at<T: Drop>(block: &mut VecDeque<(u64, T)>, index: usize) -> Option<(u64, T)>
+    requires { index < length block.old.items }
+    ensures value { IfSome result (λ entry. entry ≡ slice_index_or block.old.items index entry) }
+    ensures some { IsSome result }
+    ensures items { block.new.items ≡ remove block.old.items index }
+    ensures len { deque_len block.new ≤ deque_len block.old }
+    ensures room { deque_capacity block.new ≡ deque_capacity block.old }
+{
+    if index + 1 == block.len() {
+        return block.pop_back();
+    }
+    let mut taken = block.pop_front()?;
+    for i in 0..index {
+        taken = mem::replace(&mut block[i], taken);
+    }
+    Some(taken)
 }
 
 /// Of a block that has few entries for its room, the room that it doesn't need goes.

@@ -1,15 +1,15 @@
 -- The indexes of our calls after a change, and the state that is seen.
-use Rattle.std.proofs.Common.{◌≡◌, ℕ, ◌+◌, ◌<◌, ◌==◌, ◌&&◌, Bool, true, false, cond, if◌then◌else◌, List, Option, Some, None, MatchOption, refl, ap, sym, ◌∙◌, arith, nat_lt, nat_le, zero, suc, ◌++◌, ◌∷◌, [], append_assoc}
+use Rattle.std.proofs.Common.{◌≡◌, ℕ, ◌+◌, ◌-◌, ◌<◌, ◌≤◌, ◌==◌, ◌&&◌, Bool, true, false, cond, if◌then◌else◌, List, Option, Some, None, MatchOption, refl, ap, sym, ◌∙◌, arith, subst, not, ◌⊎◌, inl, inr, nat_lt, nat_le, zero, suc, ◌++◌, ◌∷◌, [], append_assoc}
 use Rattle.std.proofs.lemmas.List.{append-nil}
 use Rattle.std.proofs.lemmas.List.Elements.{filter-append}
-use Rattle.std.proofs.lemmas.Bool.{eqb-true, ltb-true, lt-ltb}
-use Rattle.std.specs.Option.{option_map}
+use Rattle.std.proofs.lemmas.Bool.{eqb-true, ltb-true, ltb-false, lt-ltb}
+use Rattle.std.specs.Option.{option_map, option_map_or}
 use Rattle.open_calls.specs.declared.own_call.OwnCall.{OwnCall}
 use Rattle.open_calls.specs.declared.keys_by_caller.KeysByCaller.{KeysByCaller}
 use Rattle.number_windows.specs.Numbered.{at, up_to, Above, Below, Ascending}
 use Rattle.open_calls.specs.Own.{OwnState, is_wanted_by, next_wanted, new_call, new_calls}
-use Rattle.open_calls.specs.Inner.{has_key, passes, IsKeyIndex}
-use Rattle.number_windows.proofs.Numbered.{find_none, find_first, above_push, up_to_all, up_to_above}
+use Rattle.open_calls.specs.Inner.{has_key, is_of, passes, IsKeyIndex}
+use Rattle.number_windows.proofs.Numbered.{at_below, below_more, find_none, find_first, above_push, up_to_all, up_to_above}
 
 abbrev pub state_of : ℕ → List (ℕ × OwnCall) → OwnState
 state_of made waiting = record { made = made; waiting = waiting }
@@ -29,14 +29,13 @@ gone_step false false was o w p is none only = is
 pub passes_at : {X : Type 0} (p : X → Bool) (key k : ℕ) (call : X) (es : List (ℕ × X)) → at key es ≡ Some call → (key == k) ≡ true → passes p (at k es) ≡ p call
 passes_at p key k call es is here = ap (λ n. passes p (at n es)) (sym (eqb-true key k here)) ∙ ap (passes p) is
 
-pub index_gone : (test : ℕ → OwnCall → Bool) (old new : KeysByCaller) (was now : List (ℕ × OwnCall)) (key : ℕ) (call : OwnCall) (w : Option OwnCall)
+pub index_gone : (old new : KeysByCaller) (was now : List (ℕ × OwnCall)) (key : ℕ) (call : OwnCall)
     → ((c k : ℕ) → has_key new c k ≡ (if (call.caller == c) && (key == k) then false else has_key old c k))
-    → IsKeyIndex old test was → ((k : ℕ) → at k now ≡ cond (key == k) w (at k was)) → at key was ≡ Some call
-    → ((c : ℕ) → passes (test c) w ≡ false) → ((c : ℕ) → (call.caller == c) ≡ false → test c call ≡ false) → IsKeyIndex new test now
-index_gone test old new was now key call w has index changes is none other =
+    → IsKeyIndex old was → ((k : ℕ) → at k now ≡ cond (key == k) None (at k was)) → at key was ≡ Some call → IsKeyIndex new now
+index_gone old new was now key call has index changes is =
     λ c k. has c k
-    ∙ gone_step (call.caller == c) (key == k) (has_key old c k) (at k was) w (test c) (index c k) (none c) (λ here apart. passes_at (test c) key k call was is here ∙ other c apart)
-    ∙ ap (passes (test c)) (sym (changes k))
+    ∙ gone_step (call.caller == c) (key == k) (has_key old c k) (at k was) None (is_of c) (index c k) refl (λ here apart. passes_at (is_of c) key k call was is here ∙ apart)
+    ∙ ap (passes (is_of c)) (sym (changes k))
 
 -- ---- an entry is changed, and its key stays
 
@@ -44,11 +43,10 @@ same_step : (here : Bool) (o : Option OwnCall) (w : OwnCall) (p : OwnCall → Bo
 same_step true o w p is = is refl
 same_step false o w p is = refl
 
-pub index_same : (test : ℕ → OwnCall → Bool) (index : KeysByCaller) (was now : List (ℕ × OwnCall)) (key : ℕ) (call changed : OwnCall)
-    → IsKeyIndex index test was → ((k : ℕ) → at k now ≡ cond (key == k) (Some changed) (at k was)) → at key was ≡ Some call
-    → ((c : ℕ) → test c call ≡ test c changed) → IsKeyIndex index test now
-index_same test index was now key call changed is changes there like =
-    λ c k. is c k ∙ same_step (key == k) (at k was) changed (test c) (λ here. passes_at (test c) key k call was there here ∙ like c) ∙ ap (passes (test c)) (sym (changes k))
+pub index_same : (index : KeysByCaller) (was now : List (ℕ × OwnCall)) (key : ℕ) (call changed : OwnCall)
+    → IsKeyIndex index was → ((k : ℕ) → at k now ≡ cond (key == k) (Some changed) (at k was)) → at key was ≡ Some call → changed.caller ≡ call.caller → IsKeyIndex index now
+index_same index was now key call changed is changes there same =
+    λ c k. is c k ∙ same_step (key == k) (at k was) changed (is_of c) (λ here. passes_at (is_of c) key k call was there here ∙ ap (λ n. n == c) (sym same)) ∙ ap (passes (is_of c)) (sym (changes k))
 
 -- ---- a key comes
 
@@ -59,15 +57,14 @@ come_step true false was o w p is like none = is
 come_step false true was o w p is like none = is ∙ ap (passes p) (none refl) ∙ sym like
 come_step false false was o w p is like none = is
 
-pub index_come : (test : ℕ → OwnCall → Bool) (old new : KeysByCaller) (was now : List (ℕ × OwnCall)) (key : ℕ) (call : OwnCall)
+pub index_come : (old new : KeysByCaller) (was now : List (ℕ × OwnCall)) (key : ℕ) (call : OwnCall)
     → ((c k : ℕ) → has_key new c k ≡ (if (call.caller == c) && (key == k) then true else has_key old c k))
-    → IsKeyIndex old test was → ((k : ℕ) → at k now ≡ cond (key == k) (Some call) (at k was)) → at key was ≡ None
-    → ((c : ℕ) → test c call ≡ (call.caller == c)) → IsKeyIndex new test now
-index_come test old new was now key call has index changes none like =
+    → IsKeyIndex old was → ((k : ℕ) → at k now ≡ cond (key == k) (Some call) (at k was)) → at key was ≡ None → IsKeyIndex new now
+index_come old new was now key call has index changes none =
     λ c k. has c k
-    ∙ come_step (call.caller == c) (key == k) (has_key old c k) (at k was) call (test c) (index c k) (like c)
+    ∙ come_step (call.caller == c) (key == k) (has_key old c k) (at k was) call (is_of c) (index c k) refl
     (λ here. ap (λ n. at n was) (sym (eqb-true key k here)) ∙ none)
-    ∙ ap (passes (test c)) (sym (changes k))
+    ∙ ap (passes (is_of c)) (sym (changes k))
 
 pub and_true : (b : Bool) → (b && true) ≡ b
 and_true true = refl
@@ -90,25 +87,88 @@ pub both_false : (a b : Bool) → (a ≡ true → b ≡ false) → (a && b) ≡ 
 both_false true b is = is refl
 both_false false b is = refl
 
-fails_at : (index : KeysByCaller) (es : List (ℕ × OwnCall)) (caller n : ℕ) (x : OwnCall) → IsKeyIndex index is_wanted_by es → at n es ≡ Some x → has_key index caller n ≡ false → is_wanted_by caller x ≡ false
-fails_at index es caller n x is there none = ap (passes (is_wanted_by caller)) (sym there) ∙ sym (is caller n) ∙ none
-
 abbrev pub IsNext : KeysByCaller → ℕ → ℕ → Option ℕ → Type 0
 IsNext index caller after result =
     MatchOption result
     ((k : ℕ) → after < k → has_key index caller k ≡ false)
     (λ key. (after < key) × (has_key index caller key ≡ true) × ((k : ℕ) → after < k → k < key → has_key index caller k ≡ false))
 
-pub wanted_next : (index : KeysByCaller) (es : List (ℕ × OwnCall)) (caller after : ℕ) (r : Option ℕ) → Ascending es → IsKeyIndex index is_wanted_by es → IsNext index caller after r
+-- no call of the caller above the first key is wanted whose key is below the second; where there is none, none is
+abbrev pub IsPassed : List (ℕ × OwnCall) → ℕ → ℕ → Option ℕ → Type 0
+IsPassed es caller after result =
+    MatchOption result
+    ((k : ℕ) → after < k → passes (is_wanted_by caller) (at k es) ≡ false)
+    (λ key. (after < key) × (passes (is_of caller) (at key es) ≡ true) × ((k : ℕ) → after < k → k < key → passes (is_wanted_by caller) (at k es) ≡ false))
+
+abbrev pub is_withdrawn_in : Option OwnCall → Bool
+is_withdrawn_in o = passes (λ call. call.is_withdrawn) o
+
+either : (b : Bool) → (b ≡ true) ⊎ (b ≡ false)
+either true = inl refl
+either false = inr refl
+
+between : (a b : ℕ) → a ≤ b → b ≤ a → a ≡ b
+between a b le ge = omega arith
+
+unwanted : (caller : ℕ) (o : Option OwnCall) → passes (is_of caller) o ≡ false → passes (is_wanted_by caller) o ≡ false
+unwanted caller None is = refl
+unwanted caller (Some call) is = ap (λ b. b && not call.is_withdrawn) is
+
+withdrawn_unwanted : (caller : ℕ) (o : Option OwnCall) → is_withdrawn_in o ≡ true → passes (is_wanted_by caller) o ≡ false
+withdrawn_unwanted caller None is = refl
+withdrawn_unwanted caller (Some call) is = ap (λ b. (call.caller == caller) && not b) is ∙ and_false (call.caller == caller)
+
+-- the next one of a caller has passed none
+pub first_passed : (index : KeysByCaller) (es : List (ℕ × OwnCall)) (caller after : ℕ) (r : Option ℕ) → IsKeyIndex index es → IsNext index caller after r → IsPassed es caller after r
+first_passed index es caller after None is next = λ k over. unwanted caller (at k es) (sym (is caller k) ∙ next k over)
+first_passed index es caller after (Some key) is next =
+    (next.0, sym (is caller key) ∙ next.1, λ k over under. unwanted caller (at k es) (sym (is caller k) ∙ next.2 k over under))
+
+-- one that is withdrawn is passed
+passed_over : (es : List (ℕ × OwnCall)) (caller after key k : ℕ) → ((k : ℕ) → after < k → k < key → passes (is_wanted_by caller) (at k es) ≡ false) → is_withdrawn_in (at key es) ≡ true
+    → (key < k → passes (is_wanted_by caller) (at k es) ≡ false) → after < k → passes (is_wanted_by caller) (at k es) ≡ false
+passed_over es caller after key k under gone above over =
+    elim (either (nat_lt k key)) [
+      | inl less ↦ under k over (ltb-true k key less)
+      | inr more ↦ elim (either (nat_lt key k)) [
+        | inl less ↦ above (ltb-true key k less)
+        | inr same ↦ subst (λ n. passes (is_wanted_by caller) (at n es) ≡ false) (between key k (ltb-false k key more) (ltb-false key k same)) (withdrawn_unwanted caller (at key es) gone)
+      ]
+    ]
+
+pub more_passed : (es : List (ℕ × OwnCall)) (caller after key : ℕ) (r : Option ℕ) → IsPassed es caller after (Some key) → is_withdrawn_in (at key es) ≡ true → IsPassed es caller key r → IsPassed es caller after r
+more_passed es caller after key None was gone next = λ k over. passed_over es caller after key k was.2 gone (λ above. next k above) over
+more_passed es caller after key (Some more) was gone next =
+    (omega (arith, was.0, next.0), next.1, λ k over under. passed_over es caller after key k was.2 gone (λ above. next.2 k above under) over)
+
+-- what is passed has fewer keys behind it
+
+none_some : {X : Type 0} (x : X) → None ≡ Some x → ⊥
+none_some x is = cc
+
+pub key_within : (n key : ℕ) (call : OwnCall) (es : List (ℕ × OwnCall)) → Below n es → at key es ≡ Some call → key < n
+key_within n key call es under there =
+    elim (either (nat_lt key n)) [
+      | inl less ↦ ltb-true key n less
+      | inr more ↦ absurd (none_some call (sym (at_below key es (below_more n key es (ltb-false key n more) under)) ∙ there))
+    ]
+
+pub fewer_behind : (es : List (ℕ × OwnCall)) (caller made key : ℕ) (r : Option ℕ) → key < suc made → IsPassed es caller key r → option_map_or (λ k. suc made - k) r 0 < suc made - key
+fewer_behind es caller made key None within passed = omega (arith, within)
+fewer_behind es caller made key (Some more) within passed = omega (arith, within, passed.0)
+
+-- where those in front of it are passed, one that isn't withdrawn is the next
+pub wanted_next : (es : List (ℕ × OwnCall)) (caller after : ℕ) (r : Option ℕ) → Ascending es → IsPassed es caller after r → MatchOption r (Unit {0}) (λ key. is_withdrawn_in (at key es) ≡ false)
     → r ≡ next_wanted caller after es
-wanted_next index es caller after None order is next =
+wanted_next es caller after None order passed kept =
     sym (ap (λ o. option_map (λ e. e.0) o) (find_none (λ e. nat_lt after e.0 && is_wanted_by caller e.1) es order
-    (λ n x there. both_false (nat_lt after n) (is_wanted_by caller x) (λ over. fails_at index es caller n x is there (next n (ltb-true after n over))))))
-wanted_next index es caller after (Some key) order is next =
-    let found = some_of (is_wanted_by caller) (at key es) (sym (is caller key) ∙ next.1) in
+    (λ n x there. both_false (nat_lt after n) (is_wanted_by caller x) (λ over. ap (passes (is_wanted_by caller)) (sym there) ∙ passed n (ltb-true after n over)))))
+wanted_next es caller after (Some key) order passed kept =
+    let found = some_of (is_of caller) (at key es) passed.1 in
+    let stays : found.0.is_withdrawn ≡ false = ap is_withdrawn_in (sym found.1) ∙ kept in
     sym (ap (λ o. option_map (λ e. e.0) o) (find_first (λ e. nat_lt after e.0 && is_wanted_by caller e.1) key found.0 es order found.1
-    (ap (λ b. b && is_wanted_by caller found.0) (lt-ltb after key next.0) ∙ found.2)
-    (λ n y under there. both_false (nat_lt after n) (is_wanted_by caller y) (λ over. fails_at index es caller n y is there (next.2 n (ltb-true after n over) under)))))
+    (ap (λ b. b && is_wanted_by caller found.0) (lt-ltb after key passed.0) ∙ ap (λ b. b && not found.0.is_withdrawn) found.2 ∙ ap not stays)
+    (λ n y under there. both_false (nat_lt after n) (is_wanted_by caller y) (λ over. ap (passes (is_wanted_by caller)) (sym there) ∙ passed.2 n (ltb-true after n over) under))))
 
 -- ---- calls that are made one after another
 

@@ -19,7 +19,6 @@ use Rattle.open_calls.specs.declared.scattered_numbers.ScatteredNumbers.{Scatter
 use Rattle.number_windows.specs.declared.number_window.NumberWindow.{NumberWindow}
 use Rattle.number_windows.specs.Windows.{IsWindow, window_entries}
 use Rattle.number_windows.specs.Numbered.{at, Above, Below}
-use Rattle.open_calls.specs.Own.{is_wanted_by}
 use Rattle.open_calls.specs.Theirs.{is_reached}
 
 abbrev pub pair_cmp : ℕ × ℕ → ℕ × ℕ → Ordering
@@ -67,21 +66,20 @@ is_listed index id number = is_ascending index.ascending id number || is_scatter
 abbrev pub passes : {X : Type 0} → (X → Bool) → Option X → Bool
 passes test entry = option_map_or test entry false
 
-abbrev pub IsKeyIndex : KeysByCaller → (ℕ → OwnCall → Bool) → List (ℕ × OwnCall) → Type 0
-IsKeyIndex index test waiting = (caller key : ℕ) → has_key index caller key ≡ passes (test caller) (at key waiting)
-
 abbrev pub IsNumberIndex : NumbersById → List (ℕ × TheirCall) → Type 0
 IsNumberIndex index calls = (id : Id) (number : ℕ) → is_listed index id number ≡ passes (is_reached id) (at number calls)
 
 abbrev pub is_of : ℕ → OwnCall → Bool
 is_of caller call = call.caller == caller
 
-pub record IsOwn (made : ℕ) (waiting : NumberWindow OwnCall) (all kept : KeysByCaller) : Type 0 where
+abbrev pub IsKeyIndex : KeysByCaller → List (ℕ × OwnCall) → Type 0
+IsKeyIndex index waiting = (caller key : ℕ) → has_key index caller key ≡ passes (is_of caller) (at key waiting)
+
+pub record IsOwn (made : ℕ) (waiting : NumberWindow OwnCall) (index : KeysByCaller) : Type 0 where
   pub window : IsWindow waiting
   pub positive : Above 0 (window_entries waiting)
   pub numbered : Below (suc made) (window_entries waiting)
-  pub by_caller : IsKeyIndex all is_of (window_entries waiting)
-  pub wanted : IsKeyIndex kept is_wanted_by (window_entries waiting)
+  pub by_caller : IsKeyIndex index (window_entries waiting)
 
 pub record IsTheirs (came : ℕ) (calls : NumberWindow TheirCall) (index : NumbersById) : Type 0 where
   pub window : IsWindow calls

@@ -1,5 +1,5 @@
 ghost use Rattle.std.specs.Prelude.{◌≡◌, ℕ, ◌==◌, ◌&&◌, true, false, if◌then◌else◌, ◌+◌, ◌-◌, ◌<◌, ◌≤◌, ◌^◌, ◌++◌, ◌∷◌, [], length, OnOk, OnErr, IfOk, MatchOption, Option, Some, None, is_some};
-ghost use Rattle.open_calls.specs.Inner.{has_key};
+ghost use Rattle.open_calls.specs.Inner.{passes};
 ghost use Rattle.open_calls.specs.declared.own_call.OwnCall.{OwnCall};
 ghost use Rattle.number_windows.specs.Numbered.{at, without, up_to, changed_at, Above, Ascending};
 
@@ -13,14 +13,13 @@ use std::mem;
 /// Our calls that wait for a reply. They have the keys 1, 2, .. in the order in which they were made.
 #[derive(Drop)]
 pub struct OwnCalls {
-    /// How many were made. `IsOwn` holds: no key is greater, and the indexes have just the keys that are said here.
+    /// How many were made. `IsOwn` holds: no key is greater, and the index has just the keys of those that wait.
     made: u64,
     /// Those that wait, by their keys.
     waiting: NumberWindow<OwnCall>,
-    /// The keys of all that wait.
+    /// Their keys, by their callers. An index of those that aren't withdrawn would make each call dearer, for the sake of a
+    /// cancel that passes over withdrawn ones; and what is cancelled ends them all.
     by_caller: KeysByCaller,
-    /// The keys of those that wait and aren't withdrawn.
-    wanted: KeysByCaller,
 }
 
 impl Model for OwnCalls {
@@ -33,7 +32,7 @@ impl Model for OwnCalls {
 
     ghost view = { λ a. record { made = a.made; waiting = window_entries a.waiting } };
 
-    ghost invariant = { λ a. IsOwn a.made a.waiting a.by_caller a.wanted };
+    ghost invariant = { λ a. IsOwn a.made a.waiting a.by_caller };
 }
 
 impl OwnCalls {
@@ -46,7 +45,6 @@ impl OwnCalls {
             made: 0,
             waiting: NumberWindow::new(alloc),
             by_caller: KeysByCaller::new(alloc),
-            wanted: KeysByCaller::new(alloc),
         }
     }
 
@@ -97,7 +95,7 @@ impl OwnCalls {
     {
         let key = self.made + 1;
         self.waiting.make_room()?;
-        add_to_both(&mut self.by_caller, &mut self.wanted, caller, key)?;
+        self.by_caller.add(caller, key)?;
         let call = OwnCall {
             caller,
             is_withdrawn: false,
@@ -145,8 +143,6 @@ impl OwnCalls {
             return;
         };
         call.is_withdrawn = true;
-        let caller = call.caller;
-        self.wanted.remove(caller, key);
     }
 
     /// The call with this key doesn't wait any more. Says whether it did.
@@ -158,7 +154,6 @@ impl OwnCalls {
             return false;
         };
         self.by_caller.remove(call.caller, key);
-        self.wanted.remove(call.caller, key);
         true
     }
 
@@ -180,7 +175,6 @@ impl OwnCalls {
             made: self.made,
             waiting: NumberWindow::new(alloc),
             by_caller: KeysByCaller::new(alloc),
-            wanted: KeysByCaller::new(alloc),
         };
         mem::replace(self, none)
     }
@@ -206,33 +200,23 @@ impl OwnCalls {
         ensures positive { Above 0 self.now.waiting }
         ensures ascending { Ascending self.now.waiting }
     {
-        self.wanted.next(caller, after)
+        let mut next = self.by_caller.next(caller, after);
+        while let Some(key) = next {
+            if !self.is_withdrawn(key) {
+                break;
+            }
+            next = self.by_caller.next(caller, key);
+        }
+        next
     }
-}
 
-/// Puts a key into both indexes, or into none.
-fn add_to_both(
-    by_caller: &mut KeysByCaller,
-    wanted: &mut KeysByCaller,
-    caller: u64,
-    key: u64,
-) -> Result<(), AllocError>
-    requires { (c : ℕ) → has_key by_caller.old c key ≡ false }
-    ensures by_caller { OnOk result ((c k : ℕ) → has_key by_caller.new c k ≡
-        (if (caller == c) && (key == k) then true else has_key by_caller.old c k)) }
-    ensures wanted { OnOk result ((c k : ℕ) → has_key wanted.new c k ≡
-        (if (caller == c) && (key == k) then true else has_key wanted.old c k)) }
-    ensures by_caller_err { OnErr result ((c k : ℕ) →
-        has_key by_caller.new c k ≡ has_key by_caller.old c k) }
-    ensures wanted_err { OnErr result ((c k : ℕ) →
-        has_key wanted.new c k ≡ has_key wanted.old c k) }
-{
-    by_caller.add(caller, key)?;
-    match wanted.add(caller, key) {
-        Ok(()) => Ok(()),
-        Err(refused) => {
-            by_caller.remove(caller, key);
-            Err(refused)
+    /// Whether the call with this key is withdrawn and waits.
+    fn is_withdrawn(&self, key: u64) -> bool
+        ensures { result ≡ passes (λ call. call.is_withdrawn) (at key self.now.waiting) }
+    {
+        match self.waiting.get(key) {
+            Some(call) => call.is_withdrawn,
+            None => false,
         }
     }
 }

@@ -1,8 +1,14 @@
-use Rattle.std.proofs.Common.{◌≡◌, drop}
+use Rattle.std.proofs.Common.{◌≡◌, ◌-◌, ◌≤◌, length, drop}
 use Rattle.content_streams.specs.Inner.Heads.{head_bytes}
 use Rattle.content_streams.proofs.HeadSteps.{behind}
 use Rattle.content_streams.proofs.under_way.head_bytes.Given as goal
 
 -- the bytes so far, and those of the head at its stage now
-abbrev pub invariant-loop-i : goal.invariant-loop-i
-invariant-loop-i l = head_bytes l.fn.stage l.bytes ≡ behind l.i (head_bytes l.stage (drop l.i l.bytes))
+abbrev pub invariant-loop-at : goal.invariant-loop-at
+invariant-loop-at l = record {
+  within : l.at ≤ length l.bytes;
+  are : head_bytes l.fn.stage l.bytes ≡ behind l.at (head_bytes l.stage (drop l.at l.bytes));
+}
+
+abbrev pub decreases-loop-at : goal.decreases-loop-at
+decreases-loop-at l = length l.bytes - l.at

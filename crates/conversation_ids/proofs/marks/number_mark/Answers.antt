@@ -11,7 +11,7 @@ returns-clause-value c =
     let left = c.without_zeros-more.result in
     let digits : ℕ = number_of (parts.1.now ++ parts.2.now) in
     let stripped : ℕ = number_of (left.0.now ++ left.1.now) + left.2 in
-    ap (λ n. (n + left.2) % most_marks) c.remainder_of.ensures.value
+    ap (λ n. (n + left.2) % most_marks) (c.from.ensures ∙ c.remainder_of.ensures)
     ∙ sum_of (number_of (left.0.now ++ left.1.now)) left.2
     ∙ ap (λ n. n % most_marks) (sym
     (is_without digits stripped left.3 (length left.0.now + length left.1.now + left.2) c.without_zeros-more.ensures.amount c.without_zeros-more.ensures.shortest (none_left left.0.now left.1.now left.2)))

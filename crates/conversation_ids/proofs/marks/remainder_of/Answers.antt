@@ -12,7 +12,7 @@ loop-digit-preserved c =
     let i : ℕ = c.loop-digit.digit-index in
     let so_far : ℕ = number_of (take i digits) in
     let digit : ℕ = slice_index digits i - 48 in
-    c.remainder_with-number.ensures.value
+    c.remainder_with-number.ensures
     ∙ ap (λ n. (10 * n + digit) % most_marks) c.loop-digit.invariant
     ∙ more_of so_far digit
     ∙ ap (λ n. n % most_marks) (sym (number_of-last (take i digits) (slice_index digits i)) ∙ sym (ap number_of (taken digits i c.loop-digit-test.true)))
@@ -24,7 +24,7 @@ loop-other-preserved c =
     let i : ℕ = c.loop-other.other-index in
     let so_far : ℕ = number_of (digits ++ take i behind) in
     let last : ℕ = slice_index behind i in
-    c.remainder_with-number-in-loop-other.ensures.value
+    c.remainder_with-number-in-loop-other.ensures
     ∙ ap (λ n. (10 * n + (last - 48)) % most_marks) c.loop-other.invariant
     ∙ more_of so_far (last - 48)
     ∙ ap (λ n. n % most_marks)

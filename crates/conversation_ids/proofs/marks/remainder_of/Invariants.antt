@@ -1,4 +1,4 @@
-use Rattle.std.proofs.Common.{◌≡◌, ◌<◌, ◌%◌, ◌^◌, ◌++◌, take}
+use Rattle.std.proofs.Common.{◌≡◌, ◌%◌, ◌++◌, take}
 use Rattle.conversation_reading.specs.Numbers.{number_of}
 use Rattle.conversation_ids.specs.Marks.{most_marks}
 use Rattle.conversation_ids.proofs.marks.remainder_of.Given as goal

@@ -1,8 +1,7 @@
-use Rattle.std.proofs.Common.{◌≡◌, ◌++◌, ◌∷◌, [], ℕ, Option, Some, None, List, map, refl, ap, sym, ◌∙◌, subst, append-nil}
-use Rattle.lsp_frames.specs.declared.frame.Frame.{Frame}
+use Rattle.std.proofs.Common.{◌≡◌, ◌++◌, ◌∷◌, [], Option, Some, None, refl, ap, sym, ◌∙◌, subst, append-nil}
 use Rattle.content_streams.specs.Streams.{Stream, capped, place_left}
 use Rattle.content_streams.specs.Inner.Rows.{row_items, place_items}
-use Rattle.content_streams.specs.Inner.Cutters.{framing_of, limit_of, IsHeld, places_by, read_by}
+use Rattle.content_streams.specs.Inner.Cutters.{framing_of, limit_of, IsHeld}
 use Rattle.content_streams.specs.declared.content_stream.ContentStream.TheInside.{Inside}
 use Rattle.content_streams.specs.declared.ending.HowEnded.{HowEnded}
 use Rattle.content_streams.specs.declared.ending.HowEnded.TheVariants.{Closed, ReadFailed}

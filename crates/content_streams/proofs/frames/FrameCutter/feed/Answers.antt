@@ -1,10 +1,9 @@
 use Rattle.std.proofs.Common.{◌≡◌, ℕ, List, ◌++◌, length, ap, sym, ◌∙◌, subst, append_assoc, arith}
 use Rattle.lsp_frames.specs.declared.frame.Frame.{Frame}
-use Rattle.content_streams.specs.Framed.{frames_of, standing_of, placed_frames, place_of_rest}
-use Rattle.content_streams.specs.Streams.{capped_places}
+use Rattle.content_streams.specs.Framed.{frames_of, standing_of, place_of_rest}
 use Rattle.content_streams.specs.Inner.Heads.{followed, StandsAt}
 use Rattle.content_streams.specs.declared.under_way.UnderWay.{UnderWay}
-use Rattle.content_streams.proofs.FrameFeeding.{FollowsOn, given_are, given_fit, follows_on, came_with, stands_all}
+use Rattle.content_streams.proofs.FrameFeeding.{given_are, given_fit, follows_on, came_with, stands_all}
 use Rattle.content_streams.proofs.frames.FrameCutter.feed.Goals as goal
 
 pub follow-self-requires : goal.follow-self-requires

@@ -20,14 +20,14 @@ returns-in_default-clause-limit c =
 pub returns-in_default-clause-given : goal.returns-in_default-clause-given
 returns-in_default-clause-given c bytes stands =
     let within = within_is c.args.self.now.standing c.requires in
-    held_contents c.args.self.now.limit bytes c.args.piece.now within.0 (sym within.1 ∙ stands) c.in_default.ensures
+    held_contents c.args.self.now.limit bytes c.args.piece.now within.0 (sym within.1 ∙ stands) c.in_default.ensures.position
     ∙ ap (λ (xs : List Frame). ended_contents c.args.self.now.limit bytes ++ xs) (sym c.new-contents.ensures.items)
 
 pub returns-in_default-clause-left : goal.returns-in_default-clause-left
 returns-in_default-clause-left c bytes stands =
     let within = within_is c.args.self.now.standing c.requires in
     ap (λ (cutter : LineCutting). cutter.standing) (c.in_ok-hold.ensures.ok within.0 within.1)
-    ∙ sym (held_standing c.args.self.now.limit bytes c.args.piece.now within.0 (sym within.1 ∙ stands) c.in_default.ensures)
+    ∙ sym (held_standing c.args.self.now.limit bytes c.args.piece.now within.0 (sym within.1 ∙ stands) c.in_default.ensures.position)
 
 pub returns-then-not-fits_with-clause-given : goal.returns-then-not-fits_with-clause-given
 returns-then-not-fits_with-clause-given c bytes stands =
@@ -36,7 +36,7 @@ returns-then-not-fits_with-clause-given c bytes stands =
     let long : false ≡ fits c.args.self.now.limit (without_cr (line ++ take c.in-Some.end c.args.piece.now)) =
     c.if-not-fits_with.ensures ∙ ap (λ (xs : List ℕ). fits c.self.inside.limit (without_cr (xs ++ take c.in-Some.end c.args.piece.now))) c.as_slice.ensures.value
     ∙ ap (λ n. fits n (without_cr (line ++ take c.in-Some.end c.args.piece.now))) (sym known.0) in
-    long_contents c.args.self.now.limit bytes c.args.piece.now line c.in-Some.end (sym known.1 ∙ stands) c.in-Some.ensures long
+    long_contents c.args.self.now.limit bytes c.args.piece.now line c.in-Some.end (sym known.1 ∙ stands) c.in-Some.ensures.position long
     ∙ ap (λ (xs : List Frame). ended_contents c.args.self.now.limit bytes ++ xs) (sym c.new-contents.ensures.items)
 
 pub returns-then-not-fits_with-clause-left : goal.returns-then-not-fits_with-clause-left
@@ -47,7 +47,7 @@ returns-then-not-fits_with-clause-left c bytes stands =
     c.if-not-fits_with.ensures ∙ ap (λ (xs : List ℕ). fits c.self.inside.limit (without_cr (xs ++ take c.in-Some.end c.args.piece.now))) c.as_slice.ensures.value
     ∙ ap (λ n. fits n (without_cr (line ++ take c.in-Some.end c.args.piece.now))) (sym known.0) in
     ap (λ (cutter : LineCutting). cutter.standing) (c.drop.view_is ∙ c.over.ensures)
-    ∙ sym (long_standing c.args.self.now.limit bytes c.args.piece.now line c.in-Some.end (sym known.1 ∙ stands) c.in-Some.ensures long)
+    ∙ sym (long_standing c.args.self.now.limit bytes c.args.piece.now line c.in-Some.end (sym known.1 ∙ stands) c.in-Some.ensures.position long)
 
 pub returns-clause-given : goal.returns-clause-given
 returns-clause-given c bytes stands =
@@ -67,7 +67,7 @@ returns-clause-given c bytes stands =
     c.replace-whole.ensures.value ∙ ap (λ (xs : List ℕ). cutting c.self.inside.limit (standing_at c.self.inside.is_over xs) c.self.inside.start) c.in_ok-extend_from_slice.ensures.items
     ∙ whole_seen c.self.inside.limit c.self.inside.is_over line (line ++ front) c.self.inside.start c.args.self.now c.self.view_is c.requires in
     let last : last_contents c.replace-whole.result.limit c.replace-whole.result.standing ≡ last_contents limit (Within (line ++ front)) = ap (λ (cutter : LineCutting). last_contents cutter.limit cutter.standing) whole in
-    more_contents limit bytes c.args.piece.now line c.in-Some.end (sym known.1 ∙ stands) c.in-Some.ensures fit
+    more_contents limit bytes c.args.piece.now line c.in-Some.end (sym known.1 ∙ stands) c.in-Some.ensures.position fit
     ∙ ap (λ (xs : List Frame). ended_contents limit bytes ++ xs) (elim c.match-into_content.branch [
       | in-Some-into_content w ↦ ap (λ (xs : List Frame). xs ++ later) (sym (w.in-Some-into_content.ensures ∙ last))
           ∙ sym (ap (λ (v : Vec Frame Global). v.items) w.contents-is ∙ ap (λ (xs : List Frame). set xs 0 w.in-Some-into_content.content) cut)
@@ -87,16 +87,16 @@ returns-clause-left c bytes stands =
     let rest : take (length c.args.piece.now - (c.in-Some.end + 1)) behind ≡ behind = take_rest c.args.piece.now (c.in-Some.end + 1) in
     ap (λ (cutter : LineCutting). cutter.standing) (c.replace-whole.ensures.after ∙ c.in_ok-next.ensures.left _ c.behind_line-start.ensures)
     ∙ ap (λ (xs : List ℕ). text_standing c.self.inside.limit xs) rest ∙ ap (λ n. text_standing n behind) (sym known.0)
-    ∙ sym (more_standing limit bytes c.args.piece.now line c.in-Some.end (sym known.1 ∙ stands) c.in-Some.ensures fit)
+    ∙ sym (more_standing limit bytes c.args.piece.now line c.in-Some.end (sym known.1 ∙ stands) c.in-Some.ensures.position fit)
 
 pub returns-in_default-clause-places : goal.returns-in_default-clause-places
-returns-in_default-clause-places c bytes passed stands starts is = held_places c.args.self.now.limit bytes c.args.piece.now c.in_default.ensures ∙ is
+returns-in_default-clause-places c bytes passed stands starts is = held_places c.args.self.now.limit bytes c.args.piece.now c.in_default.ensures.position ∙ is
 
 pub returns-in_default-clause-start : goal.returns-in_default-clause-start
 returns-in_default-clause-start c bytes stands starts =
     let within = within_is c.args.self.now.standing c.requires in
     let At : LineCutting → Type 0 = λ cutter. LinesStartAt cutter (bytes ++ c.args.piece.now) in
-    subst At (sym (c.in_ok-hold.ensures.ok within.0 within.1)) (starts ∙ ap capped (sym (held_start c.args.self.now.limit bytes c.args.piece.now c.in_default.ensures)))
+    subst At (sym (c.in_ok-hold.ensures.ok within.0 within.1)) (starts ∙ ap capped (sym (held_start c.args.self.now.limit bytes c.args.piece.now c.in_default.ensures.position)))
 
 pub returns-then-not-fits_with-clause-places : goal.returns-then-not-fits_with-clause-places
 returns-then-not-fits_with-clause-places c bytes passed stands starts is =
@@ -105,7 +105,7 @@ returns-then-not-fits_with-clause-places c bytes passed stands starts is =
     let long : false ≡ fits c.args.self.now.limit (without_cr (line ++ take c.in-Some.end c.args.piece.now)) =
     c.if-not-fits_with.ensures ∙ ap (λ (xs : List ℕ). fits c.self.inside.limit (without_cr (xs ++ take c.in-Some.end c.args.piece.now))) c.as_slice.ensures.value
     ∙ ap (λ n. fits n (without_cr (line ++ take c.in-Some.end c.args.piece.now))) (sym known.0) in
-    over_places c.args.self.now.limit bytes c.args.piece.now line c.in-Some.end (sym known.1 ∙ stands) c.in-Some.ensures long ∙ is
+    over_places c.args.self.now.limit bytes c.args.piece.now line c.in-Some.end (sym known.1 ∙ stands) c.in-Some.ensures.position long ∙ is
 
 pub returns-then-not-fits_with-clause-start : goal.returns-then-not-fits_with-clause-start
 returns-then-not-fits_with-clause-start c bytes stands starts =
@@ -117,7 +117,7 @@ returns-then-not-fits_with-clause-start c bytes stands starts =
     let At : LineCutting → Type 0 = λ cutter. LinesStartAt cutter (bytes ++ c.args.piece.now) in
     let Of : ℕ → Type 0 = λ n. c.self.inside.start ≡ capped (line_place n 0 (ended_lines (bytes ++ c.args.piece.now))) in
     subst At (sym (c.drop.view_is ∙ c.over.ensures)) (subst Of known.0 (sym known.2 ∙ starts
-    ∙ ap capped (sym (over_start c.args.self.now.limit bytes c.args.piece.now line c.in-Some.end (sym known.1 ∙ stands) c.in-Some.ensures long))))
+    ∙ ap capped (sym (over_start c.args.self.now.limit bytes c.args.piece.now line c.in-Some.end (sym known.1 ∙ stands) c.in-Some.ensures.position long))))
 
 pub returns-clause-places : goal.returns-clause-places
 returns-clause-places c bytes passed stands starts is =
@@ -134,7 +134,7 @@ returns-clause-places c bytes passed stands starts is =
     let at : c.self.inside.start ≡ capped place = sym known.2 ∙ starts in
     let next = place + length (line ++ front) + 1 in
     let first : c.behind_line-start.result ≡ capped next =
-    c.behind_line-start.ensures ∙ next_first place c.self.inside.start c.len.result c.in-Some.end line front at (c.len.ensures ∙ c.self.inside.line.ok.0) (rest_within c.args.piece.now c.in-Some.end c.in-Some.ensures) in
+    c.behind_line-start.ensures ∙ next_first place c.self.inside.start c.len.result c.in-Some.end line front at (c.len.ensures ∙ c.self.inside.line.ok.0) (rest_within c.args.piece.now c.in-Some.end c.in-Some.ensures.position) in
     let later = places_from limit next (ended_lines behind) in
     let cut : c.cut.new.places.items ≡ (old ++ capped place ∷ []) ++ later =
     c.in_ok-next.ensures.places next first
@@ -154,7 +154,7 @@ returns-clause-places c bytes passed stands starts is =
           ∙ ap (λ (xs : List ℕ). remove xs c.len-had.result) cut ∙ removed old later (capped place) c.len-had.result sized
           ∙ ap (λ (fs : List Frame). old ++ (map (λ (f : Frame). capped place) fs ++ later)) (w.in-None.ensures ∙ last)
     ] in
-    more_places limit bytes c.args.piece.now line c.in-Some.end (sym known.1 ∙ stands) c.in-Some.ensures fit
+    more_places limit bytes c.args.piece.now line c.in-Some.end (sym known.1 ∙ stands) c.in-Some.ensures.position fit
     ∙ ap (λ (xs : List ℕ). ended_places limit bytes ++ (xs ++ later)) (kept_last limit (capped place) (line ++ front) (sym fit))
     ∙ ap (λ (xs : List ℕ). xs ++ (map (λ (f : Frame). capped place) (last_contents limit (Within (line ++ front))) ++ later)) is
     ∙ append_assoc passed old (map (λ (f : Frame). capped place) (last_contents limit (Within (line ++ front))) ++ later)
@@ -173,9 +173,9 @@ returns-clause-start c bytes stands starts =
     let rest : take (length c.args.piece.now - (c.in-Some.end + 1)) behind ≡ behind = take_rest c.args.piece.now (c.in-Some.end + 1) in
     let next = place + length (line ++ front) + 1 in
     let first : c.behind_line-start.result ≡ capped next =
-    c.behind_line-start.ensures ∙ next_first place c.self.inside.start c.len.result c.in-Some.end line front (sym known.2 ∙ starts) (c.len.ensures ∙ c.self.inside.line.ok.0) (rest_within c.args.piece.now c.in-Some.end c.in-Some.ensures) in
+    c.behind_line-start.ensures ∙ next_first place c.self.inside.start c.len.result c.in-Some.end line front (sym known.2 ∙ starts) (c.len.ensures ∙ c.self.inside.line.ok.0) (rest_within c.args.piece.now c.in-Some.end c.in-Some.ensures.position) in
     let At : LineCutting → Type 0 = λ cutter. LinesStartAt cutter (bytes ++ c.args.piece.now) in
     let Of : ℕ → Type 0 = λ n. capped (line_place n next (ended_lines (take (length c.args.piece.now - (c.in-Some.end + 1)) behind))) ≡ capped (line_place n 0 (ended_lines (bytes ++ c.args.piece.now))) in
     subst At (sym (c.replace-whole.ensures.after ∙ c.in_ok-next.ensures.left next first))
     (subst Of known.0 (ap (λ (xs : List ℕ). capped (line_place limit next (ended_lines xs))) rest
-    ∙ ap capped (sym (more_start limit bytes c.args.piece.now line c.in-Some.end (sym known.1 ∙ stands) c.in-Some.ensures fit))))
+    ∙ ap capped (sym (more_start limit bytes c.args.piece.now line c.in-Some.end (sym known.1 ∙ stands) c.in-Some.ensures.position fit))))

@@ -1,5 +1,4 @@
-use Rattle.std.proofs.Common.{◌≡◌, ◌+◌, ◌-◌, ◌≤◌, ℕ, List, ◌∷◌, ◌++◌, [], length, drop, ap, sym, ◌∙◌, append_assoc, arith}
-use Rattle.std.specs.VecDeque.{deque_len, deque_capacity}
+use Rattle.std.proofs.Common.{◌≡◌, ◌+◌, ℕ, List, ◌∷◌, ◌++◌, [], drop, ap, sym, ◌∙◌, append_assoc, arith}
 use Rattle.content_streams.specs.Inner.Heads.{followed, at_start}
 use Rattle.content_streams.specs.declared.under_way.UnderWay.{UnderWay}
 use Rattle.content_streams.proofs.HeadSteps.{followed_first, one_followed, noted, small_more, small_all}

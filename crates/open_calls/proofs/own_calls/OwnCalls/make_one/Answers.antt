@@ -1,19 +1,11 @@
-use Rattle.std.proofs.Common.{◌≡◌, ◌+◌, ◌++◌, ◌∷◌, [], suc, ◌∙◌, ◌==◌, ap, subst, sym, refl, arith, add-one}
+use Rattle.std.proofs.Common.{◌≡◌, ◌+◌, ◌++◌, ◌∷◌, [], suc, ◌∙◌, ap, subst, sym, arith, add-one}
 use Rattle.number_windows.specs.Windows.{window_entries}
 use Rattle.number_windows.specs.Numbered.{Above, Below}
-use Rattle.open_calls.specs.Own.{is_wanted_by, new_call}
-use Rattle.open_calls.specs.Inner.{is_of, passes}
+use Rattle.open_calls.specs.Own.{new_call}
 use Rattle.number_windows.proofs.Numbered.{below_push, above_push, at_below}
 use Rattle.number_windows.proofs.Rows.{at_come}
-use Rattle.open_calls.proofs.Own.{index_come, and_true}
+use Rattle.open_calls.proofs.Own.{index_come}
 use Rattle.open_calls.proofs.own_calls.OwnCalls.make_one.Goals as goal
-
-pub add_to_both-requires : goal.add_to_both-requires
-add_to_both-requires c = λ caller.
-    let made = c.self.inside.made in
-    let es = window_entries c.self.inside.waiting in
-    let under : Below (made + 1) es = rw add-one c.self.invariant.numbered in
-    c.self.invariant.by_caller caller (made + 1) ∙ ap (passes (is_of caller)) (at_below (made + 1) es under)
 
 pub invariant_of-self-2 : goal.invariant_of-self-2
 invariant_of-self-2 c =
@@ -29,8 +21,5 @@ invariant_of-self-2 c =
       window = c.push.ensures.window;
       positive = subst (λ fs. Above 0 fs) (sym is) (above_push 0 key call es (omega arith) c.self.invariant.positive);
       numbered = subst (λ fs. Below (suc key) fs) (sym is) (below_push (suc c.self.inside.made) (suc key) key call es (omega arith) (omega arith) c.self.invariant.numbered);
-      by_caller = index_come is_of c.self.inside.by_caller c.add_to_both.new.by_caller es now key call
-          c.in_ok-add_to_both.ensures.by_caller c.self.invariant.by_caller changes none (λ k. refl);
-      wanted = index_come is_wanted_by c.self.inside.wanted c.add_to_both.new.wanted es now key call
-          c.in_ok-add_to_both.ensures.wanted c.self.invariant.wanted changes none (λ k. and_true (c.args.caller == k));
+      by_caller = index_come c.self.inside.by_caller c.add.new.self es now key call c.in_ok-add.ensures.ok c.self.invariant.by_caller changes none;
     }

@@ -21,7 +21,6 @@ invariant_of-self c =
       numbered = subst (λ n. Below n (window_entries c.self-2.inside.waiting)) last (subst (λ fs. Below key fs) (sym after)
           (below_without key now (subst (λ fs. Below (suc key) fs) before c.self.invariant.numbered)));
       by_caller = c.self-2.invariant.by_caller;
-      wanted = c.self-2.invariant.wanted;
     }
 
 pub returns : goal.returns

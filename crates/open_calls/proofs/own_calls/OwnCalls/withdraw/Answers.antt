@@ -1,12 +1,12 @@
-use Rattle.std.proofs.Common.{◌≡◌, suc, Some, ◌∙◌, ◌==◌, not, subst, sym, refl}
+use Rattle.std.proofs.Common.{◌≡◌, suc, Some, ◌∙◌, subst, sym, refl}
 use Rattle.number_windows.specs.Windows.{window_entries}
 use Rattle.number_windows.specs.Numbered.{at, changed_at, Above, Below}
-use Rattle.open_calls.specs.Own.{is_wanted_by, withdrawn}
-use Rattle.open_calls.specs.Inner.{is_of, IsKeyIndex}
+use Rattle.open_calls.specs.Own.{withdrawn}
+use Rattle.open_calls.specs.Inner.{IsKeyIndex}
 use Rattle.number_windows.proofs.Numbered.{unchanged, below_changed, above_changed}
 use Rattle.number_windows.proofs.Rows.{at_replaced}
 use Rattle.open_calls.proofs.States.{through}
-use Rattle.open_calls.proofs.Own.{state_of, same_waiting, index_gone, index_same, false_and, and_false}
+use Rattle.open_calls.proofs.Own.{state_of, same_waiting, index_same}
 use Rattle.number_windows.proofs.StandIns.{put}
 use Rattle.open_calls.proofs.own_calls.OwnCalls.withdraw.Goals as goal
 
@@ -17,8 +17,7 @@ invariant_of-self c =
       window = none.1;
       positive = subst (λ fs. Above 0 fs) (sym none.0) c.self.invariant.positive;
       numbered = subst (λ fs. Below (suc c.self.inside.made) fs) (sym none.0) c.self.invariant.numbered;
-      by_caller = subst (λ fs. IsKeyIndex c.self.inside.by_caller is_of fs) (sym none.0) c.self.invariant.by_caller;
-      wanted = subst (λ fs. IsKeyIndex c.self.inside.wanted is_wanted_by fs) (sym none.0) c.self.invariant.wanted;
+      by_caller = subst (λ fs. IsKeyIndex c.self.inside.by_caller fs) (sym none.0) c.self.invariant.by_caller;
     }
 
 pub returns-in_default : goal.returns-in_default
@@ -42,9 +41,7 @@ invariant_of-self-2 c =
       window = holds.1;
       positive = subst (λ fs. Above 0 fs) (sym is) (above_changed 0 c.args.key withdrawn es c.self.invariant.positive);
       numbered = subst (λ fs. Below (suc c.self.inside.made) fs) (sym is) (below_changed (suc c.self.inside.made) c.args.key withdrawn es c.self.invariant.numbered);
-      by_caller = index_same is_of c.self.inside.by_caller es now c.args.key call (withdrawn call) c.self.invariant.by_caller changes there (λ k. refl);
-      wanted = index_gone is_wanted_by c.self.inside.wanted c.remove.new.self es now c.args.key call (Some (withdrawn call))
-          c.remove.ensures c.self.invariant.wanted changes there (λ k. and_false (call.caller == k)) (λ k other. false_and (call.caller == k) (not call.is_withdrawn) other);
+      by_caller = index_same c.self.inside.by_caller es now c.args.key call (withdrawn call) c.self.invariant.by_caller changes there refl;
     }
 
 pub returns : goal.returns
