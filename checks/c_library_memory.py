@@ -9,9 +9,10 @@ messages in one piece is known to keep the room that they waited in. A content t
 and an answer that waits for an earlier one take at most twice their bytes; a request that is open among 32 at most five times what it takes
 where the others are open too; and a batch of which one request is open no more than 16 KiB. So much at most is held
 behind a long text of the output and behind the last of many, and with all written there are the same bytes behind each
-long one, to the kilobyte. Under valgrind, where it is installed, rows, random sessions, loans and all examples have no
-error and lose nothing. By AddressSanitizer, where clang has it, the same of rows, loans and examples: it sees what the
-library has given back, and not into the library, so sessions would show no more by it."""
+long one, to the kilobyte. bm_held gives no less than what is pending, and at most 77,824 with all written. Under
+valgrind, where it is installed, rows, random sessions, loans and all examples have no error and lose nothing. By
+AddressSanitizer, where clang has it, the same of rows, loans and examples: it sees what the library has given back, and
+not into the library, so sessions would show no more by it."""
 import argparse
 import os
 import re
@@ -84,6 +85,8 @@ OPEN = (
 SPARSE, ALONE = 10_000, 5
 # What is behind a long text of the output, and the last of many, hold so many bytes at most.
 MANY, BEHIND = 100_000, 16_384
+# What bm_held gives at most with all written: what the header says, and the room that the block lent last has by then.
+HELD_AT_MOST = 73_728 + 4_096
 SESSIONS, FEW = 150, 25
 SANITIZED = [
     "clang",
@@ -165,7 +168,7 @@ def check_kept_output(count: ran.Count, library: str, room: str) -> None:
     program = build(count, library, room, f"{SUPPORT}/kept_output.c", "static", ["-D_GNU_SOURCE"])
     for framing in ("frames", "lines", "contents"):
         got = said([program, framing, str(LARGE), str(MANY)])
-        long, many, left, *more = map(int, got[1].split()) if got[0] == 0 else [1 << 60] * 5
+        long, many, left, *more, fresh, waiting, written = map(int, got[1].split()) if got[0] == 0 else [1 << 60] * 8
         print(
             f"output in {framing}: {long:,} bytes held behind {LARGE:,}, with a short one left, {many:,} at the last of "
             f"{MANY:,}; {left:,} are left with all written, {more[0]:,} and {more[1]:,} more than before",
@@ -174,6 +177,9 @@ def check_kept_output(count: ran.Count, library: str, room: str) -> None:
         count.check(f"what is written is given back, in {framing}", max(long, many) <= BEHIND, f"{got}")
         is_even = left <= LEFT and all(abs(it) <= EVEN for it in more)
         count.check(f"no room is kept behind long output, in {framing}", is_even, f"{got}")
+        print(f"bm_held: {fresh:,} at first, {waiting:,} while it waits, {written:,} with all written", flush=True)
+        follows = fresh == 0 and LARGE < waiting <= 2 * LARGE + HELD_AT_MOST and written <= HELD_AT_MOST
+        count.check(f"bm_held follows what waits, in {framing}", follows, f"{got}")
 
 
 def sessions(cases: int) -> list[rows.Row]:

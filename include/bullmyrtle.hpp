@@ -163,6 +163,13 @@ class connection
         return bm_pending(&held_);
     }
 
+    // For how many bytes its buffers have room, which is little once all is written. With the framing BM_CONTENTS,
+    // messages that aren't lent yet aren't counted.
+    std::size_t held() noexcept
+    {
+        return bm_held(&held_);
+    }
+
     // What is to be written, or the first bytes of it: an empty view only where there is nothing. It holds until some
     // of it was written, or the connection is destroyed. With the framing BM_CONTENTS it is one message.
     std::string_view output() noexcept

@@ -92,6 +92,7 @@ static void check_texts()
     it.notify(told->name, told->text);
     check(told->text.data() == view.data() && told->name == name && view == params,
           "its texts hold while it is answered");
+    check(it.held() >= name.size() + params.size() + it.pending(), "its buffers hold its texts and what is pending");
     check(!it.next(), "nothing else is told");
     check(written(it, 3) ==
               "{\"error\":{\"code\":-5,\"data\":" + params +
@@ -99,6 +100,7 @@ static void check_texts()
                   "\",\"params\":" + params + "}\n",
           "all bytes, in pieces");
     check(it.output().empty() && it.pending() == 0, "nothing is left");
+    check(it.held() <= 73728 + 4096, "and its buffers hold little");
     const auto key = it.call("a", "[]");
     it.feed("{\"jsonrpc\":\"2.0\",\"id\":1,\"result\":7}\n");
     told = it.next();

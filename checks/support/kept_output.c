@@ -2,8 +2,9 @@
  *
  * Has a connection write one notification of LONG bytes and a short one behind it, and writes the long one, in parts
  * where it may; and then COUNT short ones, and all but the last of them. Prints how many bytes more than before the
- * library holds each time; how many more with all written, behind a long one; and how many more these are, than behind
- * the one before, behind one that was written in parts and behind one that was written as it was lent. */
+ * library holds each time; how many more with all written, behind a long one; how many more these are, than behind the
+ * one before, behind one that was written in parts and behind one that was written as it was lent; and what bm_held
+ * gives at first, while a long one is lent, and with all written. */
 #include "bullmyrtle.h"
 
 #include <malloc.h>
@@ -59,6 +60,18 @@ static ssize_t behind(size_t before, const char *text, size_t length, bool is_wh
     return (ssize_t)(held() - before);
 }
 
+/* What bm_held gives while a text waits, which is written then. (A message of contents counts once it is lent.) */
+static size_t held_with(const char *text, size_t length, bool is_whole)
+{
+    const uint8_t *lent;
+    notify(text, length);
+    check(bm_output(&connection, &lent), "bm_output");
+    size_t room = bm_held(&connection), pending = bm_pending(&connection);
+    check(room >= pending, "bm_held gives less than is pending");
+    put(is_whole ? 1 : pending, is_whole, PART);
+    return room;
+}
+
 int main(int words, char **given)
 {
     static const char *const framings[] = {"frames", "lines", "contents"};
@@ -67,6 +80,7 @@ int main(int words, char **given)
     while (options.framing < 3 && strcmp(framings[options.framing], given[1]))
         options.framing++;
     check(bm_open(&options, &connection.at) == BM_OK, "bm_open");
+    size_t fresh = bm_held(&connection);
     size_t length = strtoull(given[2], NULL, 10), count = strtoull(given[3], NULL, 10);
     char *text = malloc(length);
     check(text && length > 2, "memory");
@@ -97,7 +111,9 @@ int main(int words, char **given)
     ssize_t warm = behind(before, text, length, is_whole, SIZE_MAX),
             left = behind(before, text, length, is_whole, PART);
     ssize_t again = behind(before, text, length, is_whole, SIZE_MAX);
-    printf("%zd %zd %zd %zd %zd\n", long_one, many, left, left - warm, again - warm);
+    size_t waiting = held_with(text, length, is_whole), written = bm_held(&connection);
+    printf("%zd %zd %zd %zd %zd %zu %zu %zu\n", long_one, many, left, left - warm, again - warm, fresh, waiting,
+           written);
     free(text);
     bm_free(connection);
     return 0;

@@ -244,6 +244,8 @@ static void ask_for_state(bm_connection *of)
     look();
     bm_pending(of);
     look();
+    bm_held(of);
+    look();
 }
 
 static void say_all(bm_connection *to, const part *texts, uint64_t number, int32_t *codes)

@@ -269,6 +269,7 @@ static const uint8_t *output(size_t *length)
     check((*length > 0) == (pending > 0) && *length <= pending, "it lends as much as isn't pending");
     check(!in_contents || *length == pending, "it lends other than a message");
     check(pending == bm_pending(&connection), "other bytes are pending once they are lent");
+    check(bm_held(&connection) >= pending, "there is room for less than is pending");
     if (loans[OUTPUT].at)
         check(at == loans[OUTPUT].at && *length == loans[OUTPUT].length, "it lends other bytes than before");
     else if (*length)

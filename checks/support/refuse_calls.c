@@ -32,6 +32,7 @@ int32_t __real_bm_say_all(bm_connection *, bm_saying *, size_t, const uint8_t *,
 size_t __real_bm_output(bm_connection *, const uint8_t **);
 int32_t __real_bm_written(bm_connection *, size_t);
 size_t __real_bm_pending(bm_connection *);
+size_t __real_bm_held(bm_connection *);
 bool __real_bm_is_done(bm_connection *);
 void __real_bm_counts(bm_connection *, bm_report *);
 
@@ -314,6 +315,11 @@ int32_t __wrap_bm_end(bm_connection *connection, uint32_t how)
 size_t __wrap_bm_pending(bm_connection *connection)
 {
     WITHOUT("bm_pending", size_t, __real_bm_pending(connection));
+}
+
+size_t __wrap_bm_held(bm_connection *connection)
+{
+    WITHOUT("bm_held", size_t, __real_bm_held(connection));
 }
 
 size_t __wrap_bm_output(bm_connection *connection, const uint8_t **bytes)

@@ -706,6 +706,13 @@ static napi_value pending(napi_env env, napi_callback_info info)
     return begin(&to, env, info) ? number(env, (double)bm_pending(&to.it->at)) : NULL;
 }
 
+/* held(handle) */
+static napi_value held(napi_env env, napi_callback_info info)
+{
+    crossing to;
+    return begin(&to, env, info) ? number(env, (double)bm_held(&to.it->at)) : NULL;
+}
+
 /* isDone(handle) */
 static napi_value is_done(napi_env env, napi_callback_info info)
 {
@@ -796,21 +803,12 @@ __attribute__((visibility("default"))) napi_value napi_register_module_v1(napi_e
     static const struct {
         const char *name;
         napi_callback call;
-    } calls[] = {{"open", open_one},
-                 {"close", close_one},
-                 {"heads", heads},
-                 {"feed", feed},
-                 {"fed", fed},
-                 {"events", events},
-                 {"end", end},
-                 {"say", say},
-                 {"take", take},
-                 {"sayOne", say_alone},
-                 {"callBatch", call_batch},
-                 {"counts", counts},
-                 {"pending", pending},
-                 {"isDone", is_done},
-                 {"faultAt", fault_at}};
+    } calls[] = {
+        {"open", open_one},        {"close", close_one}, {"heads", heads},     {"feed", feed}, {"fed", fed},
+        {"events", events},        {"end", end},         {"say", say},         {"take", take}, {"sayOne", say_alone},
+        {"callBatch", call_batch}, {"counts", counts},   {"pending", pending}, {"held", held}, {"isDone", is_done},
+        {"faultAt", fault_at},
+    };
     if (bm_interface() != BM_INTERFACE)
         return thrown(env, "ERR_BULLMYRTLE_INTERFACE", "the library has another interface");
     shared *it = calloc(1, sizeof *it);

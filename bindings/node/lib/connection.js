@@ -238,6 +238,11 @@ class Connection {
     return native.pending(this.#handle)
   }
 
+  /** For how many bytes its buffers have room: small once all is taken, whatever was written before. */
+  get held() {
+    return native.held(this.#handle)
+  }
+
   take(most = Infinity) {
     const size = native.pending(this.#handle)
     if (this.#framing === 'contents' && size > most) return Buffer.alloc(0)

@@ -369,6 +369,10 @@ class Addon {
     return this.#with('pending', handle)
   }
 
+  held(handle) {
+    return this.#with('held', handle)
+  }
+
   isDone(handle) {
     return this.#with('isDone', handle)
   }

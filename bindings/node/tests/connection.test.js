@@ -153,6 +153,21 @@ test('a content goes as a whole, whatever its length and the room for it', () =>
   }
 })
 
+test('the room of its buffers follows what waits, and not what has passed', () => {
+  const params = JSON.stringify(['x'.repeat(4_000_000)])
+  for (const framing of ['frames', 'lines', 'contents']) {
+    const it = new Connection({ framing })
+    assert.equal(it.held, 0)
+    for (let i = 0; i < 3; i++) {
+      it.notify('m', params)
+      // (a content counts while it is lent, and here none is)
+      if (framing !== 'contents') assert.ok(it.pending > params.length && it.held >= it.pending, `${it.pending}, ${it.held}`)
+      assert.ok(it.take().length > params.length)
+      assert.ok(it.held <= 73_728 + 4_096, `${it.held} in ${framing}`)
+    }
+  }
+})
+
 test('what is refused has changed nothing', () => {
   const it = new Connection({ framing: 'lines' })
   it.fed(line({ jsonrpc: '2.0', method: 'm', id: 1 }))
@@ -191,7 +206,7 @@ test('what has another type is a TypeError', () => {
 test('a connection that is closed says so, and closing it twice too', () => {
   const it = new Connection()
   it.close()
-  for (const act of [() => it.close(), () => it.feed(Buffer.alloc(1)), () => it.events(), () => it.pending, () => it.answer(1)]) {
+  for (const act of [() => it.close(), () => it.feed(Buffer.alloc(1)), () => it.events(), () => it.pending, () => it.held, () => it.answer(1)]) {
     assert.throws(act, { code: 'ERR_BULLMYRTLE_CLOSED' })
   }
 })

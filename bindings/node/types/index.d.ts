@@ -777,6 +777,9 @@ export declare class Connection {
   fail(number: number | bigint, code: number | bigint, message?: string | Uint8Array, data?: Json): void
   cancel(number: number | bigint): void
   readonly pending: number
+  /** For how many bytes its buffers have room: small once all is taken, whatever was written before. Contents that wait
+   * aren't counted. */
+  readonly held: number
   take(most?: number): Uint8Array
   readonly isDone: boolean
   /** Where the frame or line at fault begins, counted from the first byte that was fed. */

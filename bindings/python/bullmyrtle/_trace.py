@@ -108,6 +108,10 @@ class Traced:
         return self._connection.pending
 
     @property
+    def held(self) -> int:
+        return self._connection.held
+
+    @property
     def is_done(self) -> bool:
         return self._connection.is_done
 

@@ -517,6 +517,12 @@ static PyObject *connection_pending(Connection *self, void *closure)
     return is_open(&self->end) ? number_of(bm_pending(library_of(self))) : NULL;
 }
 
+static PyObject *connection_held(Connection *self, void *closure)
+{
+    (void)closure;
+    return is_open(&self->end) ? number_of(bm_held(library_of(self))) : NULL;
+}
+
 static PyObject *connection_is_done(Connection *self, void *closure)
 {
     (void)closure;
@@ -604,6 +610,10 @@ static PyMethodDef CONNECTION_METHODS[] = {
 static PyGetSetDef CONNECTION_FIELDS[] = {
     GOTTEN("pending", connection_pending,
            "How many bytes are to be written; with \"contents\" the length of the next text."),
+    GOTTEN("held", connection_held,
+           "For how many bytes its buffers have room: small once all is taken, whatever was written before.\n\n"
+           "It counts what is to be written, the texts of the event that was asked for last, and the next text; with "
+           "\"contents\" no text that waits."),
     GOTTEN("is_done", connection_is_done,
            "Whether the input is over, every event told, every call answered, and every byte taken."),
     GOTTEN(

@@ -65,6 +65,7 @@ def all_calls(connection_kind, judge_kind, large=LARGE):
     surely(it.notify, "n", "{}")
     surely(it.withdraw, first)
     out = b""
+    assert surely(getattr, it, "held") >= surely(getattr, it, "pending")
     while surely(getattr, it, "pending"):
         out += surely(it.take, 100_000)
     surely(it.feed, frame({"jsonrpc": "2.0", "id": key, "result": {"a": [1]}}))

@@ -182,6 +182,12 @@ size_t bm_pending(bm_connection *connection)
     return ((made *)connection->at)->length;
 }
 
+size_t bm_held(bm_connection *connection)
+{
+    (void)connection;
+    return SIZE_MAX;
+}
+
 /* (in blocks, of which none is as long as what is read) */
 size_t bm_output(bm_connection *connection, const uint8_t **bytes)
 {

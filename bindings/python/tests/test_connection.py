@@ -337,6 +337,7 @@ class Refusals(Case):
             lambda: it.fail(1, 1),
             lambda: it.cancel(1),
             lambda: it.pending,
+            lambda: it.held,
             it.take,
             lambda: it.is_done,
             it.counts,
@@ -344,6 +345,36 @@ class Refusals(Case):
         for call in calls:
             with self.assertRaises(bullmyrtle.Closed):
                 call()
+
+
+class Room(Case):
+    """What the buffers of a connection have room for follows what waits, and not what has passed."""
+
+    LITTLE = 73_728 + 4_096
+    TEXT = b'["' + b"x" * 4_000_000 + b'"]'
+
+    def test_of_output(self):
+        for framing in ("frames", "lines", "contents"):
+            with self.subTest(framing), Connection(framing) as it:
+                self.assertEqual(it.held, 0)
+                for _ in range(3):
+                    it.notify("a", self.TEXT)
+                    self.assertGreater(it.pending, len(self.TEXT))
+                    if framing != "contents":  # (whose texts count while they are lent, and here none is)
+                        self.assertGreaterEqual(it.held, it.pending)
+                        it.take(1_000)
+                        self.assertGreaterEqual(it.held, it.pending)
+                    self.assertGreater(len(it.take()), len(self.TEXT) - 1_000)
+                    self.assertLessEqual(it.held, self.LITTLE)
+
+    def test_of_an_event(self):
+        text = b'["' + b"x" * 500_000 + b'"]'
+        with lines() as it:
+            it.feed(b'{"jsonrpc":"2.0","method":"a","params":' + text + b"}\n")
+            self.assertEqual(it.next_event().params, text)
+            self.assertGreaterEqual(it.held, len(text))
+            self.assertIsNone(it.next_event())
+            self.assertLessEqual(it.held, self.LITTLE)
 
 
 class Threads(Case):

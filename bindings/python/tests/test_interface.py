@@ -1,6 +1,7 @@
 """What the package passes to the library is what C sees: by calls in C that write down what they are given."""
 import os
 import shutil
+import sys
 import tempfile
 import threading
 
@@ -43,6 +44,7 @@ class Interface(Case):
         event = events.Call((1 << 64) - 1, "a\0b", b"[10]", b'"i"')
         with self.kind("lines", "as-came", True, 123, 1 << 63) as it:
             self.assertIs(it.is_done, True)
+            self.assertEqual(it.held, 2 * sys.maxsize + 1)
             self.assertEqual(it.counts(), Counts(1 << 40, 1, 2, 3, 4, 5, 6, 7, 1 << 41))
             it.feed(b"x\0\xff")
             it.feed(b"")
@@ -102,6 +104,7 @@ class Interface(Case):
             "take": (),
             "counts": (),
             "pending": None,
+            "held": None,
             "is_done": None,
             "fault_offset": None,
             "close": (),

@@ -99,6 +99,7 @@ class Lines(Case):
         it.end()
         it.events()
         self.assertGreater(it.pending, 0)
+        self.assertGreaterEqual(it.held, it.pending)
         it.take()
         self.assertTrue(it.is_done)
         it.close()

@@ -352,6 +352,25 @@ impl Connection {
         unsafe { sys::bm_pending(&mut self.handle()) }
     }
 
+    /// For how many bytes its buffers have room: what is to be written, lent or not, the texts of the event that was
+    /// told last, and the next text. Once all is written it is at most 73,728, the block that was lent last and the
+    /// texts of that event, whatever was written before. Calls that are open, events that aren't told and input that
+    /// isn't whole have memory of their own. With [`Framing::Contents`](crate::Framing::Contents) texts that aren't lent
+    /// yet aren't counted.
+    ///
+    /// ```
+    /// # let mut connection = bullmyrtle::Connection::new(bullmyrtle::Settings::new())?;
+    /// connection.notify("log", &format!("[\"{}\"]", "x".repeat(4_000_000)))?;
+    /// assert!(connection.held() >= connection.pending());
+    /// let bytes = connection.take_bytes();
+    /// assert!(bytes.len() > 4_000_000 && connection.held() <= 73_728 + 4_096);
+    /// # Ok::<(), bullmyrtle::Refusal>(())
+    /// ```
+    #[must_use]
+    pub fn held(&self) -> usize {
+        unsafe { sys::bm_held(&mut self.handle()) }
+    }
+
     /// Lends bytes that are to be written, none only where there is nothing. It may be less than
     /// [`pending`](Self::pending): say by [`written`](Self::written) how many of them were written, and ask again. With
     /// [`Framing::Contents`](crate::Framing::Contents) it is the next text.

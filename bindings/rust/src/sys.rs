@@ -263,6 +263,7 @@ extern "C" {
     pub fn bm_output(connection: *mut bm_connection, bytes: *mut *const u8) -> usize;
     pub fn bm_written(connection: *mut bm_connection, length: usize) -> i32;
     pub fn bm_pending(connection: *mut bm_connection) -> usize;
+    pub fn bm_held(connection: *mut bm_connection) -> usize;
     pub fn bm_is_done(connection: *mut bm_connection) -> bool;
     pub fn bm_counts(connection: *mut bm_connection, report: *mut bm_report);
     pub fn bm_judge_open(options: *const bm_judge_options, at: *mut *mut c_void) -> i32;

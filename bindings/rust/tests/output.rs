@@ -73,6 +73,23 @@ fn a_writer_of_contents_takes_each_as_a_whole() {
     assert_eq!(connection.take_bytes(), text);
 }
 
+#[test]
+fn little_is_held_once_all_is_taken() {
+    let text = format!("[\"{}\"]", "x".repeat(4_000_000));
+    for framing in [Framing::Frames, Framing::Lines, Framing::Contents] {
+        let mut connection = Connection::new(Settings::new().framing(framing)).unwrap();
+        assert_eq!(connection.held(), 0);
+        for _ in 0..3 {
+            connection.notify("a", &text).unwrap();
+            // (a text of contents counts once it is lent)
+            assert!(!connection.output().is_empty());
+            assert!(connection.pending() > text.len() && connection.held() >= connection.pending());
+            assert!(connection.take_bytes().len() > text.len());
+            assert!(connection.held() <= 73_728 + 4_096, "{}", connection.held());
+        }
+    }
+}
+
 /// A writer that takes at most so many bytes at once, and fails each second time.
 struct Narrow {
     came: Vec<u8>,

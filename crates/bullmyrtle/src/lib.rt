@@ -2,13 +2,14 @@
 //! about them.
 #![tactic(auto)]
 
-ghost use Rattle.std.specs.Prelude.{◌≡◌, ◌↔◌, [], List, None, IsTrue};
+ghost use Rattle.std.specs.Prelude.{◌≡◌, ◌≢◌, ◌↔◌, ◌+◌, ◌≤◌, [], List, None, IsTrue};
 ghost use Rattle.std.specs.Borrow.{sem};
 ghost use Rattle.std.specs.Ptr.{room_at};
 ghost use base.Fml.{fex};
+ghost use Rattle.content_streams.specs.declared.framing.Framing.TheVariants.{Contents};
 ghost use Rattle.connection_history.specs.declared.event.Event.{Event};
 ghost use Rattle.connection_history.specs.History.{History};
-ghost use Rattle.connection.specs.Connections.{StandsAfter};
+ghost use Rattle.connection.specs.Connections.{StandsAfter, output};
 ghost use Rattle.connection.specs.Reports.{report_of};
 ghost use Rattle.bullmyrtle.specs.Counts.{as_c};
 ghost use Rattle.bullmyrtle.specs.Places.{held_at};
@@ -17,9 +18,10 @@ ghost use Rattle.bullmyrtle.specs.Made.{chosen_by, IsMade, Given, IsGivenBy};
 ghost use Rattle.bullmyrtle.specs.Values.{value_of};
 ghost use Rattle.host_calls.specs.Codes.{Said, code_of_said};
 ghost use Rattle.host_calls.specs.Feeding.{HasFed, HasFaultAt};
-ghost use Rattle.host_calls.specs.Hosting.{Asked, HasLent, HasGone, IsDone, SameLoans, output_at, pending};
+ghost use Rattle.host_calls.specs.Hosting.{Asked, HasLent, HasGone, IsDone, SameLoans, lent_room, output_at, pending};
 ghost use Rattle.host_calls.specs.Saying.{HasEnded, HasCalled, HasCalledAll, HasNotified, HasWithdrawn, HasAnswered, HasFailed, HasCancelled};
 ghost use Rattle.host_calls.specs.Sayings.{HasSaidAll};
+ghost use Rattle.outbox.specs.Output.{IsAllTaken};
 
 mod handle;
 mod judge_handle;
@@ -272,6 +274,18 @@ pub extern "C" fn bm_pending(handle: &mut Handle) -> usize
     ensures same { value_of handle.new ≡ value_of handle.old }
 {
     handle.as_mut().pending()
+}
+
+/// For how many bytes its buffers have room.
+#[unsafe(no_mangle)]
+pub extern "C" fn bm_held(handle: &mut Handle) -> usize
+    ensures all { (output (value_of handle.old).outlet.connection).framing ≢ Contents →
+        pending (value_of handle.old) ≤ result }
+    ensures little { IsAllTaken (output (value_of handle.old).outlet.connection) →
+        result ≤ 73728 + lent_room (value_of handle.old) }
+    ensures same { value_of handle.new ≡ value_of handle.old }
+{
+    handle.as_mut().held()
 }
 
 /// Whether all is done.

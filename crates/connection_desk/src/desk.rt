@@ -1,5 +1,6 @@
 ghost use Rattle.std.specs.Vec.{vec_capacity};
-ghost use Rattle.std.specs.Prelude.{◌≡◌, ◌≤◌, ◌++◌, ◌∷◌, [], false, length, None, Some, is_some, option_to_list, option_map, OnOk, OnErr};
+ghost use Rattle.content_streams.specs.declared.framing.Framing.TheVariants.{Contents};
+ghost use Rattle.std.specs.Prelude.{◌≡◌, ◌≢◌, ◌≤◌, ◌++◌, ◌∷◌, [], false, length, None, Some, is_some, option_to_list, option_map, OnOk, OnErr};
 
 use crate::events::Events;
 use crate::tally::Tally;
@@ -66,7 +67,7 @@ impl Desk {
     ghost use Rattle.connection_steps.specs.Tallies.{no_counts};
     ghost use Rattle.connection_desk.specs.Desks.{after_saying, capped_tally, IsDone};
     ghost use Rattle.open_calls.specs.Numbered.{at};
-    ghost use Rattle.outbox.specs.Output.{after_take, given_of, next_of};
+    ghost use Rattle.outbox.specs.Output.{IsAllTaken, after_take, given_of, next_of};
     ghost use Rattle.std.specs.Prelude.{IsTrue, ◌↔◌};
 
     /// A desk where nothing has happened. Calls can be withdrawn by these cancels, where there are any. Takes no memory.
@@ -162,6 +163,15 @@ impl Desk {
         ensures { result ≡ length (next_of self.now.out) }
     {
         self.outbox.pending()
+    }
+
+    /// For how many bytes there is room, or the greatest number: for what is to be taken, but for the texts of Contents, and
+    /// for the next text. Where all was taken it is little, whatever was written.
+    pub fn held(&self) -> usize
+        ensures all { self.now.out.framing ≢ Contents → length (next_of self.now.out) ≤ result }
+        ensures little { IsAllTaken self.now.out → result ≤ 73728 }
+    {
+        self.outbox.room().saturating_add(self.room.capacity())
     }
 
     /// Moves what is to be written next to this block, in place of what that had: the first bytes, none only where there

@@ -1,6 +1,6 @@
 -- A connection behind a handle, and what is lent of it.
 use Rattle.std.specs.Prelude.{◌≡◌, ◌⊎◌, ℕ, ◌+◌, ◌<◌, ◌≤◌, List, [], drop, length, min, nat_lt, Bool, true, false, ◌&&◌, Option, Some, None, Ok, Err, if◌then◌else◌}
-use Rattle.std.specs.Vec.{vec_ptr}
+use Rattle.std.specs.Vec.{vec_capacity, vec_ptr}
 use denote.RawPtr.{Ptr, ◌+ₚ◌}
 use Rattle.content_streams.specs.declared.framing.Framing.{Framing}
 use Rattle.content_streams.specs.declared.framing.Framing.TheVariants.{Frames, Lines, Contents}
@@ -67,6 +67,10 @@ Asked a b old new (Err why) = (why ≡ By Memory) × SameOutput a b × Kept a.ou
 -- what is lent and hasn't gone
 abbrev pub left : HostedConnection → List ℕ
 left h = drop h.gone h.output.items
+
+-- for how many bytes what is lent has room
+abbrev pub lent_room : HostedConnection → ℕ
+lent_room h = vec_capacity h.output + (vec_capacity h.texts.name + (vec_capacity h.texts.text + vec_capacity h.texts.id))
 
 -- where it begins
 abbrev pub output_at : HostedConnection → Ptr

@@ -1,10 +1,12 @@
 //! What is to be written is lent, and the host says how much of it has gone.
 
-ghost use Rattle.std.specs.Prelude.{◌≡◌, ◌↔◌, ◌≤◌, ◌+◌, List, IsTrue, length, drop};
+ghost use Rattle.std.specs.Prelude.{◌≡◌, ◌≢◌, ◌↔◌, ◌≤◌, ◌+◌, List, IsTrue, length, drop};
+ghost use Rattle.content_streams.specs.declared.framing.Framing.TheVariants.{Contents};
 ghost use Rattle.connection_history.specs.declared.event.Event.{Event};
 ghost use Rattle.connection_history.specs.History.{History};
-ghost use Rattle.connection.specs.Connections.{StandsAfter};
-ghost use Rattle.host_calls.specs.Hosting.{HasGone, HasLent, IsDone, SameTexts, in_contents, left, output_at, pending};
+ghost use Rattle.connection.specs.Connections.{StandsAfter, output};
+ghost use Rattle.outbox.specs.Output.{IsAllTaken};
+ghost use Rattle.host_calls.specs.Hosting.{HasGone, HasLent, IsDone, SameTexts, in_contents, left, lent_room, output_at, pending};
 
 use crate::code::Why;
 use crate::hosted::HostedConnection;
@@ -89,6 +91,23 @@ impl HostedConnection {
             return left;
         }
         left.saturating_add(self.outlet.connection.pending())
+    }
+
+    /// For how many bytes its buffers have room, or the greatest number: what is to be written, lent or not, the texts of
+    /// the event that was told last, and the next text that is written. Of what isn't lent it is little once all was
+    /// taken; in Contents each text that waits has memory of its own.
+    pub fn held(&self) -> usize
+        ensures all { (output self.now.outlet.connection).framing ≢ Contents → pending self.now ≤ result }
+        ensures little { IsAllTaken (output self.now.outlet.connection) → result ≤ 73728 + lent_room self.now }
+    {
+        let texts = &self.texts;
+        self.outlet
+            .connection
+            .held()
+            .saturating_add(self.output.capacity())
+            .saturating_add(texts.name.capacity())
+            .saturating_add(texts.text.capacity())
+            .saturating_add(texts.id.capacity())
     }
 
     /// Whether all is done: told, answered and written.

@@ -1,5 +1,7 @@
 -- What an outbox and a mark keep.
 use Rattle.std.specs.Prelude.{◌≡◌, ℕ, ◌≤◌, List, [], length, drop}
+use Rattle.std.specs.Vec.{vec_capacity}
+use Rattle.std.specs.declared.vec.Vec.{Vec}
 use Rattle.content_streams.specs.declared.framing.Framing.{Framing}
 use Rattle.content_streams.specs.declared.framing.Framing.TheVariants.{Frames, Lines, Contents}
 use Rattle.outbox.specs.Output.{bytes_of_texts, full_count}
@@ -26,3 +28,9 @@ pub record IsMarked (framing : Framing) (written : List (List ℕ)) (taken byte_
   pub bytes : byte_count ≡ length (bytes_left framing written taken)
   pub texts : text_count ≡ length (texts_left framing written taken)
   pub within : taken ≤ full_count framing written
+
+-- The bytes that stand in two blocks of memory. The second has some only where the first has, and an empty one has little room.
+pub record IsLeft {Z : Type 0} (front back : Vec ℕ Z) : Type 0 where
+  pub order : front.items ≡ [] → back.items ≡ []
+  pub front_room : front.items ≡ [] → vec_capacity front ≤ 4096
+  pub back_room : back.items ≡ [] → vec_capacity back ≤ 4096

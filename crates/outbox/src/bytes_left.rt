@@ -1,4 +1,5 @@
-ghost use Rattle.std.specs.Prelude.{◌≡◌, ◌≤◌, ◌++◌, ◌∷◌, [], length, take, drop, OnOk, OnErr};
+ghost use Rattle.std.specs.Prelude.{◌≡◌, ◌≢◌, ◌≤◌, ◌++◌, ◌∷◌, [], length, take, drop, OnOk, OnErr};
+ghost use Rattle.std.specs.Vec.{vec_capacity};
 ghost use Rattle.outbox.specs.Output.{framed};
 
 use content_streams::Framing;
@@ -13,9 +14,10 @@ pub(crate) const MOST_COPIED: usize = 65_536;
 /// Room for so many bytes is kept, however few are left.
 const KEPT_ROOM: usize = 4096;
 
-/// Bytes that are put at the end, and taken at the front by whole blocks of memory.
+/// Bytes that are put at the end, and taken at the front by whole blocks of memory. What has no bytes keeps little room.
 #[derive(Drop)]
 pub struct BytesLeft {
+    alloc: Global,
     /// The first bytes. There are none only where there are none at all.
     front: Vec<u8>,
     /// Those behind the others: a long text that was moved here, and what was put behind it.
@@ -23,13 +25,15 @@ pub struct BytesLeft {
 }
 
 impl Model for BytesLeft {
-    ghost use Rattle.std.specs.Prelude.{List, ℕ, [], ◌≡◌, ◌++◌};
+    ghost use Rattle.std.specs.Prelude.{List, ℕ, ◌++◌};
 
     ghost Value = { List ℕ };
 
+    ghost use Rattle.outbox.specs.Inner.{IsLeft};
+
     ghost view = { λ a. a.front.items ++ a.back.items };
 
-    ghost invariant = { λ a. a.front.items ≡ [] → a.back.items ≡ [] };
+    ghost invariant = { λ a. IsLeft a.front a.back };
 }
 
 impl BytesLeft {
@@ -38,6 +42,7 @@ impl BytesLeft {
         ensures { result ≡ [] }
     {
         BytesLeft {
+            alloc,
             front: Vec::new(alloc),
             back: Vec::new(alloc),
         }
@@ -49,16 +54,28 @@ impl BytesLeft {
         self.front.as_slice().len() + self.back.as_slice().len()
     }
 
+    /// For how many bytes there is room, or the greatest number. Where there are none it is little.
+    pub fn room(&self) -> usize
+        ensures all { length self.now ≤ result }
+        ensures little { self.now ≡ [] → result ≤ 8192 }
+    {
+        self.front.capacity().saturating_add(self.back.capacity())
+    }
+
     /// Puts the text at the end, as this framing writes it.
     pub fn put(&mut self, framing: Framing, text: &[u8]) -> Result<(), AllocError>
         ensures ok { OnOk result (self.new ≡ self.old ++ framed framing text.now) }
         ensures err { OnErr result (self.new ≡ self.old) }
     {
-        if self.back.is_empty() {
+        let put = if self.back.is_empty() {
             put_text(&mut self.front, framing, text)
         } else {
             put_text(&mut self.back, framing, text)
-        }
+        };
+        // A text for which there was no memory may have made room.
+        let_go(self.alloc, &mut self.front);
+        let_go(self.alloc, &mut self.back);
+        put
     }
 
     /// Puts the text in this room at the end, as this framing writes it. A long one is moved, so it isn't there twice, unless
@@ -68,9 +85,18 @@ impl BytesLeft {
         ensures err { OnErr result (self.new ≡ self.old) }
     {
         if room.len() > MOST_COPIED && self.back.is_empty() {
-            put_around(&mut self.front, framing, room)?;
-            move_behind(&mut self.front, &mut self.back, room);
-            return Ok(());
+            return match put_around(&mut self.front, framing, room) {
+                Ok(()) => {
+                    move_behind(&mut self.front, &mut self.back, room);
+                    let_go(self.alloc, &mut self.front);
+                    let_go(self.alloc, &mut self.back);
+                    Ok(())
+                }
+                Err(refused) => {
+                    let_go(self.alloc, &mut self.front);
+                    Err(refused)
+                }
+            };
         }
         self.put(framing, room.as_slice())
     }
@@ -83,8 +109,8 @@ impl BytesLeft {
         let in_front = count.min(self.front.len());
         self.front.truncate(in_front);
         self.back.truncate(count - in_front);
-        give_room_back(&mut self.front);
-        give_room_back(&mut self.back);
+        give_room_back(self.alloc, &mut self.front);
+        give_room_back(self.alloc, &mut self.back);
     }
 
     /// Moves the first bytes to this block, in whose room the next ones are put then; none, only where there are none.
@@ -94,7 +120,7 @@ impl BytesLeft {
         ensures none { block.new.items ≡ [] → self.old ≡ [] }
     {
         block.clear();
-        give_room_back(block);
+        give_room_back(self.alloc, block);
         mem::swap(&mut self.front, block);
         mem::swap(&mut self.front, &mut self.back);
     }
@@ -152,11 +178,25 @@ fn put_line(bytes: &mut Vec<u8>, text: &[u8]) -> Result<(), AllocError>
 }
 
 /// Gives memory back where less than a quarter is in use. What is left stays where it is if no smaller memory is to be had.
-fn give_room_back(bytes: &mut Vec<u8>)
-    ensures { bytes.new.items ≡ bytes.old.items }
+fn give_room_back(alloc: Global, bytes: &mut Vec<u8>)
+    ensures items { bytes.new.items ≡ bytes.old.items }
+    ensures little { bytes.new.items ≡ [] → vec_capacity bytes.new ≤ 4096 }
 {
     let room = bytes.capacity();
     if room > KEPT_ROOM && room / 4 > bytes.len() {
         bytes.shrink_to((2 * bytes.len()).max(KEPT_ROOM));
+    }
+    let_go(alloc, bytes);
+}
+
+/// Lets go of the room of no bytes, where it is more than is kept.
+#[inline(always)]
+fn let_go(alloc: Global, bytes: &mut Vec<u8>)
+    ensures items { bytes.new.items ≡ bytes.old.items }
+    ensures little { bytes.new.items ≡ [] → vec_capacity bytes.new ≤ 4096 }
+    ensures same { bytes.old.items ≢ [] → bytes.new ≡ bytes.old }
+{
+    if bytes.is_empty() && bytes.capacity() > KEPT_ROOM {
+        *bytes = Vec::new(alloc);
     }
 }

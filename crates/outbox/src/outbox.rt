@@ -150,6 +150,15 @@ impl Outbox {
         }
     }
 
+    /// For how many bytes there is room, or the greatest number; in Contents, besides the texts. Where all was taken it is
+    /// little, whatever was written.
+    pub fn room(&self) -> usize
+        ensures all { self.now.framing ≢ Framing.Contents → length (next_of self.now) ≤ result }
+        ensures little { IsAllTaken self.now → result ≤ 8192 }
+    {
+        self.bytes.room()
+    }
+
     /// Moves what is to be written next to this block, in place of what that had: the first bytes, none only where there
     /// are none; in Contents the next text. No byte is copied. Takes no memory.
     pub fn take(&mut self, block: &mut Vec<u8>)

@@ -258,6 +258,7 @@ CALLED("sayOne", say_alone)
 CALLED("callBatch", call_batch)
 CALLED("counts", counts)
 CALLED("pending", pending)
+CALLED("held", held)
 CALLED("isDone", is_done)
 CALLED("faultAt", fault_at)
 
