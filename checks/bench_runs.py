@@ -1,17 +1,18 @@
 """Runs the bench program on sizes that are no multiple of anything: each job comes home once, each unit is released,
 and its time is printed. What a desk took while much was open it gives back. And bench/run runs on small sizes, where
-what it measures can be built: each answer of the player, of the server and of the hosts is the one that it has to be."""
+what it measures can be built: each answer of the player, of the server and of the hosts is the one that it has to be.
+Instructions are counted of one row, and of a long copy."""
 import os
 import re
 import subprocess
 import sys
 
-from support import ran
+from support import callgrind, ran
 from support import refusals
 
 sys.path.insert(0, os.path.join(ran.TOP, "bench"))
 
-from measures import contenders  # noqa: E402 (it stands in bench/)
+from measures import behind, contenders, figures, inputs, playing, running  # noqa: E402 (it stands in bench/)
 
 # The rows of bench/run's tables, by whether the other side is called: only where it isn't the limit is beside ours in
 # `play` and `serve`, and it always is beside hosts.
@@ -30,8 +31,19 @@ THERE_AND_BACK = ("a request", "one after 5 ms", "8 MB, unknown method", *LONG)
 THERE_AND_BACK_WITH_CALLS = ("a call back", "a cancel", "a reply of 8 MB", "a param of 8 MB")
 HOSTED = ("requests", "requests with blanks", "batches of 100", "open calls")
 HOSTED_THERE_AND_BACK = ("a request", "a call back", "a cancel", "a param of 8 MB", *LONG)
-HOSTED_WHOLE = (*HOVERS, *LONG, "adds", "adds with blanks", "adds in batches", "cancels")
+HOSTED_WHOLE = (
+    *(*HOVERS, *LONG, "adds", "adds with blanks", "adds in batches", "adds, string ids"),
+    *("calls back", "cancels", "open calls", "open, string ids", "long results"),
+)
 HOSTED_MEMORY = ("a small request", "an unknown method", "a notification")
+HELD = ("one of open calls", "one, string id")
+# A copy of so many bytes, and the most instructions that it takes with the start of its program.
+COPIED, MOST = 1 << 20, 1 << 19
+COPY = (
+    "#include <string.h>\n"
+    f"static char from[{COPIED}], to[{COPIED}];\n"
+    "int main(int count, char **words) { memcpy(to, from, sizeof from - (size_t)count); return (void)words, to[5]; }\n"
+)
 
 count = ran.Count()
 BENCH = count.built("peer_bench", ran.gates_program("peer_bench"))
@@ -125,13 +137,14 @@ def check_table(found, key, names, labels):
 
 
 def check_hosts(found):
-    """The four tables of hosts."""
-    ours = ["in C", "in Rust"]
+    """The five tables of hosts."""
+    ours = ["model", "in C", "in Rust"]
     labels = ["baseline", *(it.label for it in contenders.limits()), *ours]
     check_table(found, ("sent at once (lib)", 0), HOSTED, labels)
     check_table(found, ("there and back (lib)", 0), HOSTED_THERE_AND_BACK, labels)
     check_table(found, ("played (lib)", 0), HOSTED_WHOLE, labels)
     check_table(found, ("requests for memory", 0), HOSTED_MEMORY, ["baseline", *ours])
+    check_table(found, ("bytes held", 0), HELD, labels)
 
 
 def check_tables(output):
@@ -160,6 +173,24 @@ def check_run():
     count.check("bench/run on small sizes", ended.returncode == 0, f"{ended.stdout[-500:]} {ended.stderr[-1000:]}")
     check_tables(ended.stdout)
     count.check("bench/run says where ours is behind", "behind the baseline at the largest size" in ended.stdout)
+    check_counts()
+
+
+def check_counts():
+    """A row of instructions alone, by the limit that was built, and a copy: glibc's `rep movsb` would be counted by the
+    byte."""
+    if ran.lacks("valgrind", "it counts the instructions"):
+        return
+    kept = figures.Figures(is_whole=False)
+    run = running.Run(10, 1, False, True, behind.Behind(), kept)
+    playing.show_row("played", inputs.HOVERS[0], contenders.limits(), run)
+    found = {(it.table, it.kind): it.rows["hovers"]["limit"] for it in kept.parts}
+    each = found.pop(("played", "instructions"), 0)
+    count.check("instructions alone are counted", 1_000 < each < 3_000 and not found, f"{each}, {found}")
+    program = os.path.join(ran.ROOM.name, "copy")
+    subprocess.run(["cc", "-fno-builtin", "-o", program, ran.file_of("copy.c", COPY)], check=True)
+    taken = callgrind.instructions([program])
+    count.check("a long copy is counted as a loop", taken and taken < MOST, f"{taken}")
 
 
 if BENCH:

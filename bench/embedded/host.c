@@ -1,6 +1,6 @@
 /* The host that bench/run measures: frames on the standard streams, and the methods of the baseline's host. `add`
- * answers with the sum of an array of whole numbers, and `ask` calls the other side with its params and answers
- * with the reply. */
+ * answers with the sum of an array of whole numbers, `give` with an array of as many times a value as its params say,
+ * and `ask` calls the other side with its params and answers with the reply. */
 #include "bullmyrtle.h"
 
 #include <stdint.h>
@@ -76,6 +76,28 @@ static void add(const bm_event *event)
     check(bm_answer(&connection, event->number, first, (size_t)(end - first)));
 }
 
+/* Answers with an array of so many times a value, by params `[N,VALUE]`. */
+static void give(const bm_event *event)
+{
+    const char *text = event->text_len ? (const char *)event->text : "[]";
+    char *item;
+    long count = strtol(text + 1, &item, 10);
+    if (count < 1 || *item != ',') {
+        refuse(event->number, -32602, TEXT("Invalid params"));
+        return;
+    }
+    size_t length = event->text_len - 1 - (size_t)(item - text), size = (size_t)count * length + 1;
+    uint8_t *result = malloc(size);
+    if (!result)
+        fail("out of memory");
+    for (size_t at = 0; at + 1 < size; at += length)
+        memcpy(result + at, item, length);
+    result[0] = '[';
+    result[size - 1] = ']';
+    check(bm_answer(&connection, event->number, result, size));
+    free(result);
+}
+
 static void ask(const bm_event *event)
 {
     uint64_t key;
@@ -99,6 +121,8 @@ static void called(const bm_event *event)
         check(bm_close_call(&connection, event->number));
     else if (is_method(event, "add"))
         add(event);
+    else if (is_method(event, "give"))
+        give(event);
     else if (is_method(event, "ask"))
         ask(event);
     else

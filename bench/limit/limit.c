@@ -1,39 +1,23 @@
 /* The limit that bench/run measures beside the others: how little a host on the standard streams can take that still
  * reads and answers what JSON-RPC asks. It has the methods of the baseline's host: `add` answers with the sum of an
- * array of whole numbers, and `ask` calls the other side with its params and answers with the reply. Each content is
- * validated in one pass, where its bytes lie, and answered out of them (scan.h). Of a request nothing is kept but the
- * id of an open `ask`.
+ * array of whole numbers, `give` with an array of as many times a value as its params say, and `ask` calls the other
+ * side with its params and answers with the reply. Each content is validated in one pass, where its bytes lie, and
+ * answered out of them (scan.h). Of a request nothing is kept but the id of an open `ask`.
  *
  * It is no peer to use: it takes frames with the usual head alone, in a batch it takes requests without calls back, it
  * copies texts as they came but for their blanks, it knows no name that has an escape, it takes ids beyond 64 bits, and
  * nothing bounds its memory. */
-#include "scan.h"
+#include "messages.h"
 
 #include <stdio.h>
-#include <stdlib.h>
 #include <unistd.h>
-
-typedef struct {
-    const uint8_t *at;
-    size_t length;
-} text;
-
-#define TEXT(it) ((text){(const uint8_t *)(it), sizeof(it) - 1})
-
-/* An entry's members, each where it lies, and of no bytes where it isn't there. */
-typedef struct {
-    text id, method, params, result, error;
-    bool is_object, is_version_2, has_blanks;
-} entry;
 
 enum {
     PIECE = 65536,
-    HEAD = 40,   /* room for a head before a text */
     ANSWER = 256 /* what an answer has beside the texts that it takes from its request */
 };
 
-static uint8_t *out;
-static size_t out_length, out_size;
+static buffer in, out;
 
 static void fail(const char *why)
 {
@@ -41,60 +25,69 @@ static void fail(const char *why)
     exit(1);
 }
 
-static void *sized(void *old, size_t size)
+/* ---- how it passes over JSON: all stays where it lies */
+
+static inline void pass_blanks(const uint8_t *from, const uint8_t *behind, scanned *seen)
 {
-    void *made = realloc(old, size);
-    if (!made)
-        fail("out of memory");
-    return made;
+    (void)from, (void)behind;
+    seen->blanks = true;
+}
+
+static inline void pass_blanks_at(const uint8_t *at, uint64_t places, scanned *seen)
+{
+    (void)at;
+    seen->blanks |= places != 0;
+}
+
+static inline const uint8_t *pass_escape(const uint8_t *at, scanned *seen)
+{
+    int code;
+    (void)seen;
+    return at[1] == '/' ? at + 2 : code_end(at, &code);
+}
+
+static inline const uint8_t *kept_at(const uint8_t *at, const scanned *seen)
+{
+    (void)seen;
+    return at;
 }
 
 /* ---- what is written */
 
 static void flush(void)
 {
-    for (size_t done = 0; done < out_length;) {
-        ssize_t count = write(STDOUT_FILENO, out + done, out_length - done);
+    for (size_t done = 0; done < out.to;) {
+        ssize_t count = write(STDOUT_FILENO, out.bytes + done, out.to - done);
         if (count < 0)
             fail("the output is gone");
         done += (size_t)count;
     }
-    out_length = 0;
+    out.to = 0;
 }
 
-/* Makes room for so many bytes behind `to`, which may move. */
-static uint8_t *with_room(uint8_t *to, size_t more)
+/* Begins a text of at most so many bytes. */
+static uint8_t *begin_text(size_t most)
 {
-    size_t used = (size_t)(to - out);
-    if (used + more + PAD > out_size)
-        out = sized(out, out_size = 2 * (used + more + PAD));
-    return out + used;
-}
-
-/* Begins a text of at most so many bytes, behind room for its head. */
-static uint8_t *begin(size_t length)
-{
-    if (out_length > PIECE)
+    if (out.to > PIECE)
         flush();
-    return with_room(out + out_length, HEAD + length) + HEAD;
+    return begin(&out, most);
 }
 
-static inline uint8_t *put(uint8_t *to, text it)
+/* Copies a value that was scanned without its blanks, and gives what is behind the copy. */
+static uint8_t *copy_compact(uint8_t *to, const uint8_t *at, const uint8_t *end)
 {
-    memcpy(to, it.at, it.length);
-    return to + it.length;
-}
-
-static inline uint8_t *put_number(uint8_t *to, int64_t value)
-{
-    uint8_t digits[24], *end = digits + sizeof digits, *at = end;
-    uint64_t left = value < 0 ? 0 - (uint64_t)value : (uint64_t)value;
-    do
-        *--at = (uint8_t)('0' + left % 10);
-    while ((left /= 10) > 0);
-    if (value < 0)
-        *--at = '-';
-    return put(to, (text){at, (size_t)(end - at)});
+    scanned seen = {0};
+    while (at < end) {
+        if (*at == '"') {
+            const uint8_t *behind = string_end(at + 1, end, &seen);
+            to = put(to, (text){at, (size_t)(behind - at)});
+            at = behind;
+        } else {
+            *to = *at;
+            to += *at++ > ' ';
+        }
+    }
+    return to;
 }
 
 /* A text that came, without its blanks. */
@@ -103,113 +96,15 @@ static inline uint8_t *put_said(uint8_t *to, text it, bool has_blanks)
     return has_blanks ? copy_compact(to, it.at, it.at + it.length) : put(to, it);
 }
 
-/* Ends a text: its head goes before it. */
-static void finish(uint8_t *end)
-{
-    uint8_t *start = out + out_length;
-    size_t length = (size_t)(end - start) - HEAD;
-    uint8_t *to = put(put_number(put(start, TEXT("Content-Length: ")), (int64_t)length), TEXT("\r\n\r\n"));
-    memmove(to, start + HEAD, length);
-    out_length = (size_t)(to + length - out);
-}
-
-static inline uint8_t *put_result(uint8_t *to, text id, text result, bool has_blanks)
-{
-    to = put(put(put(to, TEXT("{\"id\":")), id), TEXT(",\"jsonrpc\":\"2.0\",\"result\":"));
-    return put(put_said(to, result, has_blanks), TEXT("}"));
-}
-
-static uint8_t *put_error(uint8_t *to, text id, text error)
-{
-    to = put(put(put(to, TEXT("{\"error\":")), error), TEXT(",\"id\":"));
-    return put(put(to, id), TEXT(",\"jsonrpc\":\"2.0\"}"));
-}
-
 #define ERROR(to, id, it) put_error(to, id, TEXT(it))
-#define INVALID_REQUEST "{\"code\":-32600,\"message\":\"Invalid Request\"}"
-
-/* ---- what came */
-
-static inline bool is(text it, text other)
-{
-    return it.length == other.length && !memcmp(it.at, other.at, it.length);
-}
-
-static void take_member(entry *it, text name, text value)
-{
-    if (is(name, TEXT("\"id\"")))
-        it->id = value;
-    else if (is(name, TEXT("\"method\"")))
-        it->method = value;
-    else if (is(name, TEXT("\"params\"")))
-        it->params = value;
-    else if (is(name, TEXT("\"result\"")))
-        it->result = value;
-    else if (is(name, TEXT("\"error\"")))
-        it->error = value;
-    else if (is(name, TEXT("\"jsonrpc\"")))
-        it->is_version_2 = is(value, TEXT("\"2.0\""));
-}
-
-/* Reads the entry that begins at `at`, with no blank before it, and gives what is behind it, or NULL. */
-static const uint8_t *read_entry(const uint8_t *at, const uint8_t *end, int levels, entry *it, scanned *seen)
-{
-    memset(it, 0, sizeof *it);
-    it->is_object = *at == '{';
-    if (!it->is_object)
-        return scan(at, end, levels, seen);
-    at = blanks_end(at + 1, seen);
-    if (*at == '}')
-        return at + 1;
-    for (;;) {
-        const uint8_t *from = at, *behind;
-        if (*at != '"' || !(behind = string_end(at + 1, end, seen)))
-            return NULL;
-        text name = {from, (size_t)(behind - from)};
-        at = blanks_end(behind, seen);
-        if (*at != ':')
-            return NULL;
-        from = at = blanks_end(at + 1, seen);
-        if (!(at = scan(at, end, levels - 1, seen)))
-            return NULL;
-        take_member(it, name, (text){from, (size_t)(at - from)});
-        at = blanks_end(at, seen);
-        if (*at == '}') {
-            it->has_blanks = seen->blanks;
-            return at + 1;
-        }
-        if (*at != ',')
-            return NULL;
-        at = blanks_end(at + 1, seen);
-    }
-}
-
-/* A string or a whole number. */
-static bool is_name(text it)
-{
-    if (*it.at == '"')
-        return true;
-    if (!it.length || it.length > 20 || is(it, TEXT("-0")))
-        return false;
-    const uint8_t *at = it.at + (*it.at == '-');
-    while (at < it.at + it.length && is_digit(*at))
-        at++;
-    return at == it.at + it.length && is_digit(at[-1]);
-}
-
-static bool is_call(const entry *it)
-{
-    bool has_id = !it->id.length || is(it->id, TEXT("null")) || is_name(it->id);
-    bool has_params = !it->params.length || *it->params.at == '[' || *it->params.at == '{' || *it->params.at == 'n';
-    return it->is_version_2 && *it->method.at == '"' && has_id && has_params;
-}
+#define INVALID_PARAMS "{\"code\":-32602,\"message\":\"Invalid params\"}"
 
 /* ---- the methods */
 
 static bool sum_of(text it, int64_t *sum)
 {
     const uint8_t *at = it.at, *end = it.at + it.length;
-    scanned seen = {false, false};
+    scanned seen = {0};
     *sum = 0;
     if (!it.length || *at++ != '[')
         return false;
@@ -237,7 +132,7 @@ static bool sum_of(text it, int64_t *sum)
 /* Puts the answer to a request that calls nobody, and of a notification nothing. */
 static uint8_t *put_answer(uint8_t *to, const entry *it)
 {
-    if (!it->is_object || !it->method.length || !is_call(it))
+    if (!is_call(it))
         return ERROR(to, TEXT("null"), INVALID_REQUEST);
     if (!it->id.length)
         return to;
@@ -245,9 +140,28 @@ static uint8_t *put_answer(uint8_t *to, const entry *it)
         return ERROR(to, it->id, "{\"code\":-32601,\"message\":\"Method not found\"}");
     int64_t sum;
     if (!sum_of(it->params, &sum))
-        return ERROR(to, it->id, "{\"code\":-32602,\"message\":\"Invalid params\"}");
-    uint8_t digits[24];
-    return put_result(to, it->id, (text){digits, (size_t)(put_number(digits, sum) - digits)}, false);
+        return ERROR(to, it->id, INVALID_PARAMS);
+    return put(put_number(put_before_result(to, it->id), sum), TEXT("}"));
+}
+
+/* Answers with an array of so many times a value, by params `[N,VALUE]`. */
+static void give(const entry *it)
+{
+    text list = it->params.length ? it->params : TEXT("[]");
+    const uint8_t *at = list.at + 1, *end = list.at + list.length - 1;
+    size_t count = 0;
+    for (; is_digit(*at); at++)
+        count = 10 * count + *at - '0';
+    if (!count || *at != ',') {
+        finish(&out, ERROR(begin_text(it->id.length + ANSWER), it->id, INVALID_PARAMS));
+        return;
+    }
+    text item = {at, (size_t)(end - at)};
+    uint8_t *to = put_before_result(begin_text(count * item.length + it->id.length + ANSWER), it->id), *first = to;
+    while (count--)
+        to = put_said(to, item, it->has_blanks);
+    *first = '[';
+    finish(&out, put(to, TEXT("]}")));
 }
 
 /* By the keys of our calls, the ids of the requests on whose behalf they are. */
@@ -265,11 +179,10 @@ static void ask(const entry *it)
     uint8_t *id = sized(NULL, it->id.length);
     memcpy(id, it->id.at, it->id.length);
     asked[key] = (text){id, it->id.length};
-    uint8_t *to = begin(it->params.length + ANSWER);
-    to = put(put_number(put(to, TEXT("{\"id\":")), (int64_t)key), TEXT(",\"jsonrpc\":\"2.0\",\"method\":\"confirm\""));
+    uint8_t *to = put(put_before_method(begin_text(it->params.length + ANSWER), key), TEXT("\"confirm\""));
     if (it->params.length && *it->params.at != 'n')
         to = put_said(put(to, TEXT(",\"params\":")), it->params, it->has_blanks);
-    finish(put(to, TEXT("}")));
+    finish(&out, put(to, TEXT("}")));
 }
 
 static void release(uint64_t key)
@@ -280,18 +193,16 @@ static void release(uint64_t key)
 
 static void take_reply(const entry *it)
 {
-    uint64_t key = 0;
-    for (size_t i = 0; i < it->id.length; i++) {
-        if (!is_digit(it->id.at[i]) || i > 15)
-            return;
-        key = 10 * key + it->id.at[i] - '0';
-    }
+    uint64_t key = key_of(it->id);
     if (!key || key > keys || !asked[key].at)
         return;
-    bool is_result = it->is_version_2 && it->result.length && (!it->error.length || *it->error.at == 'n');
-    uint8_t *to = begin(asked[key].length + it->result.length + ANSWER);
-    finish(is_result ? put_result(to, asked[key], it->result, it->has_blanks)
-                     : ERROR(to, asked[key], "{\"code\":-32603,\"message\":\"Invalid reply\"}"));
+    text id = asked[key];
+    uint8_t *to = begin_text(id.length + it->result.length + ANSWER);
+    if (it->is_version_2 && it->result.length && (!it->error.length || *it->error.at == 'n'))
+        to = put(put_said(put_before_result(to, id), it->result, it->has_blanks), TEXT("}"));
+    else
+        to = ERROR(to, id, "{\"code\":-32603,\"message\":\"Invalid reply\"}");
+    finish(&out, to);
     release(key);
 }
 
@@ -299,19 +210,13 @@ static void take_reply(const entry *it)
  * short while ago, so the latest is looked at first. */
 static void cancel(const entry *it)
 {
-    scanned seen = {false, false};
-    entry params;
-    if (!it->params.length || *it->params.at != '{')
-        return;
-    read_entry(it->params.at, it->params.at + it->params.length, DEPTH, &params, &seen);
+    scanned seen = {0};
+    text id = cancelled_id(it->params, &seen);
     for (uint64_t key = keys; key; key--) {
-        if (!asked[key].at || !is(asked[key], params.id))
+        if (!asked[key].at || !is(asked[key], id))
             continue;
-        uint8_t *to =
-            put(begin(ANSWER), TEXT("{\"jsonrpc\":\"2.0\",\"method\":\"$/cancelRequest\",\"params\":{\"id\":"));
-        finish(put(put_number(to, (int64_t)key), TEXT("}}")));
-        to = begin(asked[key].length + ANSWER);
-        finish(ERROR(to, asked[key], "{\"code\":-32800,\"message\":\"Request cancelled\"}"));
+        withdraw(&out, key);
+        finish(&out, ERROR(begin_text(id.length + ANSWER), id, "{\"code\":-32800,\"message\":\"Request cancelled\"}"));
         release(key);
         return;
     }
@@ -321,15 +226,17 @@ static void cancel(const entry *it)
 
 static void take_entry(const entry *it)
 {
-    bool is_well = it->is_object && it->method.length && is_call(it);
-    if (is_well && it->id.length && is(it->method, TEXT("\"ask\"")))
+    bool is_well = is_call(it), is_request = is_well && it->id.length;
+    if (is_request && is(it->method, TEXT("\"ask\"")))
         ask(it);
-    else if (is_well && !it->id.length && is(it->method, TEXT("\"$/cancelRequest\"")))
-        cancel(it);
-    else if (it->is_object && !it->method.length && (it->result.length || it->error.length))
+    else if (is_request && is(it->method, TEXT("\"give\"")))
+        give(it);
+    else if (is_request || (!is_well && !is_reply(it)))
+        finish(&out, put_answer(begin_text(it->id.length + ANSWER), it));
+    else if (!is_well)
         take_reply(it);
-    else if (!is_well || it->id.length)
-        finish(put_answer(begin(it->id.length + ANSWER), it));
+    else if (is(it->method, TEXT("\"$/cancelRequest\"")))
+        cancel(it);
 }
 
 /* Puts the answers to a batch's entries, each with a comma behind it, or gives NULL where it isn't JSON. */
@@ -338,7 +245,7 @@ static uint8_t *put_answers(uint8_t *to, const uint8_t **at, const uint8_t *end,
     for (entry it;;) {
         if (!(*at = read_entry(*at, end, DEPTH - 1, &it, seen)))
             return NULL;
-        to = with_room(to, it.id.length + ANSWER);
+        to = room_from(&out, to, it.id.length + ANSWER);
         uint8_t *behind = put_answer(to, &it);
         if (behind != to)
             *behind++ = ',';
@@ -352,37 +259,27 @@ static uint8_t *put_answers(uint8_t *to, const uint8_t **at, const uint8_t *end,
     }
 }
 
-static bool is_over(const uint8_t *from, const uint8_t *at, const uint8_t *end, scanned *seen)
-{
-    return at && blanks_end(at, seen) == end && (!seen->high || is_utf8(from, end));
-}
-
-static void take_unreadable(void)
-{
-    finish(ERROR(begin(ANSWER), TEXT("null"), "{\"code\":-32700,\"message\":\"Parse error\"}"));
-}
-
 static void take_batch(const uint8_t *from, const uint8_t *at, const uint8_t *end, scanned *seen)
 {
     at = blanks_end(at + 1, seen);
-    uint8_t *first = begin(ANSWER), *to = put(first, TEXT("["));
-    size_t place = (size_t)(to - out);
+    uint8_t *to = put(begin_text(ANSWER), TEXT("["));
+    size_t place = (size_t)(to - out.bytes);
     bool is_empty = *at == ']';
     if (!is_empty)
         to = put_answers(to, &at, end, seen);
     if (!to || !is_over(from, at + 1, end, seen))
-        take_unreadable();
+        refuse_unnamed(&out, TEXT(PARSE_ERROR));
     else if (is_empty)
-        finish(ERROR(begin(ANSWER), TEXT("null"), INVALID_REQUEST));
-    else if (to > out + place) {
+        refuse_unnamed(&out, TEXT(INVALID_REQUEST));
+    else if (to > out.bytes + place) {
         to[-1] = ']';
-        finish(to);
+        finish(&out, to);
     }
 }
 
 static void take_content(const uint8_t *from, const uint8_t *end)
 {
-    scanned seen = {false, false};
+    scanned seen = {0};
     const uint8_t *at = blanks_end(from, &seen);
     if (*at == '[') {
         take_batch(from, at, end, &seen);
@@ -392,39 +289,26 @@ static void take_content(const uint8_t *from, const uint8_t *end)
     if (is_over(from, read_entry(at, end, DEPTH, &it, &seen), end, &seen))
         take_entry(&it);
     else
-        take_unreadable();
+        refuse_unnamed(&out, TEXT(PARSE_ERROR));
 }
 
 /* ---- the streams */
 
-static uint8_t *in;
-static size_t in_from, in_to, in_size;
-
 /* Takes the frames that are whole, and gives how many bytes more are needed at least. */
 static size_t take_frames(void)
 {
-    static const char usual[] = "Content-Length: ";
     for (;;) {
-        uint8_t *at = in + in_from, *end = in + in_to;
-        size_t length = 0;
-        if ((size_t)(end - at) < sizeof usual)
+        size_t length;
+        uint8_t *end = in.bytes + in.to, *at = frame_head_end(in.bytes + in.from, end, &length);
+        if (!at)
             return 1;
-        if (memcmp(at, usual, sizeof usual - 1))
-            fail("a head that isn't the usual one");
-        for (at += sizeof usual - 1; at < end && is_digit(*at); at++)
-            length = 10 * length + *at - '0';
-        if (end - at < 4)
-            return 1;
-        if (memcmp(at, "\r\n\r\n", 4))
-            fail("a head that isn't the usual one");
-        at += 4;
         if ((size_t)(end - at) < length)
             return length - (size_t)(end - at);
         uint8_t behind = at[length];
         at[length] = 0; /* (the scanner stops at it) */
         take_content(at, at + length);
         at[length] = behind;
-        in_from = (size_t)(at + length - in);
+        in.from = (size_t)(at + length - in.bytes);
     }
 }
 
@@ -432,32 +316,31 @@ static size_t take_frames(void)
 static bool read_more(size_t needed)
 {
     size_t more = needed > PIECE ? needed : PIECE;
-    if (in_from) {
-        memmove(in, in + in_from, in_to - in_from);
-        in_to -= in_from;
-        in_from = 0;
+    if (in.from) {
+        memmove(in.bytes, in.bytes + in.from, in.to - in.from);
+        in.to -= in.from;
+        in.from = 0;
     }
-    if (in_to + more + PAD > in_size)
-        in = sized(in, in_size = in_to + more + PIECE + PAD);
-    ssize_t count = read(STDIN_FILENO, in + in_to, in_size - in_to - PAD);
+    uint8_t *to = room(&in, more);
+    ssize_t count = read(STDIN_FILENO, to, in.size - in.to - PAD);
     if (count <= 0)
         return false;
-    in_to += (size_t)count;
-    in[in_to] = 0;
+    in.to += (size_t)count;
+    in.bytes[in.to] = 0;
     return true;
 }
 
 int main(void)
 {
-    for (;;) {
-        size_t needed = take_frames();
+    size_t needed;
+    do {
+        needed = take_frames();
         flush();
-        if (!read_more(needed))
-            break;
-    }
+    } while (read_more(needed));
     for (uint64_t key = 1; key <= keys; key++)
         if (asked[key].at)
-            finish(ERROR(begin(asked[key].length + ANSWER), asked[key], "{\"code\":-32000,\"message\":\"No reply\"}"));
+            finish(&out, ERROR(begin_text(asked[key].length + ANSWER), asked[key],
+                               "{\"code\":-32000,\"message\":\"No reply\"}"));
     flush();
     return 0;
 }

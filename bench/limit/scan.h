@@ -1,6 +1,9 @@
 /* One pass over JSON. `scan` passes over one value and validates it (RFC 8259, but for UTF-8, at most so many levels
- * deep); `copy_compact` copies one without its blanks; `is_utf8` validates UTF-8, with AVX2 by the tables of Keiser and
- * Lemire ("Validating UTF-8 In Less Than One Instruction Per Byte").
+ * deep); `is_utf8` validates UTF-8, with AVX2 by the tables of Keiser and Lemire ("Validating UTF-8 In Less Than One
+ * Instruction Per Byte").
+ *
+ * What includes it defines what is done with that which a compact text leaves out or writes another way: `pass_blanks`,
+ * `pass_blanks_at` and `pass_escape`.
  *
  * It reads up to PAD bytes beyond what it is given. These have to be readable, and the first of them is 0. */
 #ifndef SCAN_H
@@ -14,10 +17,22 @@
 
 enum { PAD = 64, DEPTH = 127 };
 
-/* What was seen in what was scanned: blanks, and bytes beyond ASCII. */
+/* What was seen in what was scanned: blanks, and bytes beyond ASCII. And of what is made compact on the way, where the
+ * copy goes on, and from where on nothing is copied yet. */
 typedef struct {
     bool blanks, high;
+    uint8_t *to;
+    const uint8_t *kept;
 } scanned;
+
+/* What is done with the blanks that stand from one place to another. */
+static inline void pass_blanks(const uint8_t *from, const uint8_t *behind, scanned *seen);
+
+/* The same with single blanks behind a place, a bit for each. */
+static inline void pass_blanks_at(const uint8_t *at, uint64_t places, scanned *seen);
+
+/* The same with an escape by a code, or that of a slash: gives what is behind it, or NULL where it is none. */
+static inline const uint8_t *pass_escape(const uint8_t *at, scanned *seen);
 
 /* As many bytes at once as the target has: 32 with AVX2, 16 with SSE2. */
 #if defined(__AVX2__)
@@ -28,6 +43,7 @@ typedef __m256i lanes;
 #define EQUAL _mm256_cmpeq_epi8
 #define LEAST _mm256_min_epu8
 #define EITHER _mm256_or_si256
+#define LESS _mm256_sub_epi8
 #define MASK(it) ((uint32_t)_mm256_movemask_epi8(it))
 #else
 enum { LANES = 16 };
@@ -37,6 +53,7 @@ typedef __m128i lanes;
 #define EQUAL _mm_cmpeq_epi8
 #define LEAST _mm_min_epu8
 #define EITHER _mm_or_si128
+#define LESS _mm_sub_epi8
 #define MASK(it) ((uint32_t)_mm_movemask_epi8(it))
 #endif
 
@@ -57,62 +74,73 @@ static inline int hexadecimal(const uint8_t *at)
 }
 
 /* Behind an escape by a code that begins with the backslash at `at`, or NULL. Half of a surrogate pair is none. */
-static inline const uint8_t *code_end(const uint8_t *at)
+static inline const uint8_t *code_end(const uint8_t *at, int *code)
 {
-    int code = hexadecimal(at + 2);
-    if (code < 0 || (code >= 0xdc00 && code < 0xe000))
+    *code = hexadecimal(at + 2);
+    if (*code < 0 || (*code >= 0xdc00 && *code < 0xe000))
         return NULL;
-    if (code < 0xd800 || code >= 0xe000)
+    if (*code < 0xd800 || *code >= 0xe000)
         return at + 6;
     if (at[6] != '\\' || at[7] != 'u')
         return NULL;
     int low = hexadecimal(at + 8);
-    return low >= 0xdc00 && low < 0xe000 ? at + 12 : NULL;
+    if (low < 0xdc00 || low >= 0xe000)
+        return NULL;
+    *code = 0x10000 + ((*code - 0xd800) << 10) + (low - 0xdc00);
+    return at + 12;
 }
 
 /* Behind an escape that begins with the backslash at `at`, or NULL. */
-static inline const uint8_t *escape_end(const uint8_t *at)
+static inline const uint8_t *escape_end(const uint8_t *at, scanned *seen)
 {
     switch (at[1]) {
     case '"':
     case '\\':
-    case '/':
     case 'b':
     case 'f':
     case 'n':
     case 'r':
     case 't':
         return at + 2;
+    case '/':
     case 'u':
-        return code_end(at);
+        return pass_escape(at, seen);
     default:
         return NULL;
     }
 }
 
+/* A bit for each quote, backslash and control character. */
+static inline uint32_t stops_in(lanes some)
+{
+    const lanes quote = SPLAT('"'), backslash = SPLAT('\\'), control = SPLAT(0x1f);
+    return MASK(EITHER(EITHER(EQUAL(some, quote), EQUAL(some, backslash)), EQUAL(LEAST(some, control), some)));
+}
+
 /* From behind a string's first quote to behind its last one, or NULL. */
 static inline const uint8_t *string_end(const uint8_t *at, const uint8_t *end, scanned *seen)
 {
-    const lanes quote = SPLAT('"'), backslash = SPLAT('\\'), control = SPLAT(0x1f);
+    uint32_t high = 0;
     while (at < end) {
         lanes some = LOAD(at);
-        uint32_t stops =
-            MASK(EITHER(EITHER(EQUAL(some, quote), EQUAL(some, backslash)), EQUAL(LEAST(some, control), some)));
-        uint32_t high = MASK(some);
-        if (!stops) {
-            seen->high |= high != 0;
-            at += LANES;
-            continue;
+        uint32_t stops = stops_in(some);
+        const uint8_t *behind = at + LANES;
+        high |= MASK(some);
+        while (stops) {
+            const uint8_t *stop = at + __builtin_ctz(stops);
+            if (*stop == '"') {
+                seen->high |= high != 0;
+                return stop < end ? stop + 1 : NULL;
+            }
+            if (*stop != '\\' || stop >= end || !(stop = escape_end(stop, seen)))
+                return NULL;
+            if (stop >= behind) {
+                behind = stop;
+                break;
+            }
+            stops &= ~0u << (stop - at);
         }
-        unsigned first = (unsigned)__builtin_ctz(stops);
-        seen->high |= (high & ((1u << first) - 1)) != 0;
-        at += first;
-        if (at >= end)
-            return NULL;
-        if (*at == '"')
-            return at + 1;
-        if (*at != '\\' || !(at = escape_end(at)))
-            return NULL;
+        at = behind;
     }
     return NULL;
 }
@@ -154,9 +182,10 @@ static inline const uint8_t *blanks_end(const uint8_t *at, scanned *seen)
 {
     if (__builtin_expect(*at > ' ', 1) || !is_blank(*at))
         return at;
-    seen->blanks = true;
+    const uint8_t *from = at;
     while (is_blank(*at))
         at++;
+    pass_blanks(from, at, seen);
     return at;
 }
 
@@ -186,11 +215,44 @@ static inline const uint8_t *name_end(const uint8_t *at, const uint8_t *end, sca
     return *at == ':' ? blanks_end(at + 1, seen) : NULL;
 }
 
+static inline uint64_t places_of(lanes some, char byte)
+{
+    return MASK(EQUAL(some, SPLAT(byte)));
+}
+
+/* From the beginning of an item past the whole numbers without a sign that follow one another there, each with the
+ * comma behind it and at most one blank behind that, as far as looks at LANES bytes show it. */
+static inline const uint8_t *naturals_end(const uint8_t *at, const uint8_t *end, scanned *seen)
+{
+    const lanes zero = SPLAT('0'), nine = SPLAT(9);
+    while (end - at >= LANES) {
+        lanes some = LOAD(at), value = LESS(some, zero);
+        uint64_t digits = MASK(EQUAL(LEAST(value, nine), value)), behind_digits = digits << 1;
+        uint64_t commas = places_of(some, ',') & behind_digits;
+        uint64_t blanks = places_of(some, ' ') & commas << 1;
+        uint64_t leading_zeros = places_of(some, '0') & ~behind_digits & digits >> 1;
+        uint64_t fit = commas | blanks | (digits & ~leading_zeros);
+        uint64_t up_to_first_misfit = fit ^ (fit + 1);
+        uint64_t ends = (commas | blanks) & up_to_first_misfit;
+        if (!ends)
+            return at;
+        unsigned passed = 64 - (unsigned)__builtin_clzll(ends);
+        pass_blanks_at(at, blanks & up_to_first_misfit, seen);
+        at += passed;
+        if (*at == ' ' && at[-1] == ',')
+            pass_blanks_at(at++, 1, seen);
+    }
+    return at;
+}
+
+/* So many numbers of an array are looked at one by one first: most arrays are short. */
+enum { ONE_BY_ONE = 3 };
+
 /* Behind the value that begins at `at`, with no blank before it, or NULL where that is none. */
 static const uint8_t *scan(const uint8_t *at, const uint8_t *end, int levels, scanned *seen)
 {
     bool is_object[DEPTH + 1];
-    int depth = 0;
+    int depth = 0, numbers = 0;
     for (;;) {
         if (*at == '[' || *at == '{') {
             if (depth >= levels)
@@ -219,25 +281,9 @@ static const uint8_t *scan(const uint8_t *at, const uint8_t *end, int levels, sc
         at = blanks_end(at + 1, seen);
         if (is_object[depth] && !(at = name_end(at, end, seen)))
             return NULL;
+        if (!is_object[depth] && is_digit(*at) && ++numbers >= ONE_BY_ONE)
+            at = blanks_end(naturals_end(at, end, seen), seen);
     }
-}
-
-/* Copies a value that was scanned without its blanks, and gives what is behind the copy. */
-static inline uint8_t *copy_compact(uint8_t *to, const uint8_t *at, const uint8_t *end)
-{
-    scanned seen = {false, false};
-    while (at < end) {
-        if (*at == '"') {
-            const uint8_t *behind = string_end(at + 1, end, &seen);
-            memcpy(to, at, (size_t)(behind - at));
-            to += behind - at;
-            at = behind;
-        } else {
-            *to = *at;
-            to += *at++ > ' ';
-        }
-    }
-    return to;
 }
 
 /* Behind the character that begins at `at`, or NULL where that isn't UTF-8 (RFC 3629, section 4). */

@@ -3,7 +3,7 @@ from typing import Dict, List, NamedTuple
 
 
 # What is measured beside ours.
-NOT_OURS = ("baseline", "limit", "limit v3")
+NOT_OURS = ("baseline", "limit", "limit v3", "model")
 
 
 class Row(NamedTuple):

@@ -1,5 +1,5 @@
-"""What is measured: the baseline, the limit, our program, and a second one of ours where it is named; and how they are
-built, or where they lie."""
+"""What is measured: the baseline, the limit, the model, our program, and a second one of ours where it is named; and
+how they are built, or where they lie."""
 import glob
 import os
 import shutil
@@ -8,7 +8,7 @@ import sys
 from typing import Iterator, List, NamedTuple, Optional, Tuple
 
 TOP = os.path.dirname(os.path.dirname(os.path.dirname(os.path.abspath(__file__))))
-sys.path.insert(0, os.path.join(TOP, "bin"))
+sys.path[:0] = [os.path.join(TOP, "bin"), os.path.join(TOP, "checks")]
 
 from tools import program, sources  # noqa: E402 (it stands in bin/)
 
@@ -19,6 +19,10 @@ CLIENT = os.path.join(FOLDER, "target", "release", "client")
 # The limit, built for the processors that ours is built for, and for newer ones.
 LIMIT = os.path.join(TOP, "bench", "limit", "limit.c")
 TARGETS = {"limit": "x86-64", "limit v3": "x86-64-v3"}
+# The host in C, and what it is linked with: the released library, or the model of it.
+HOST = os.path.join(TOP, "bench", "embedded", "host.c")
+LIBRARY = os.path.join(TOP, "release")
+BENEATH = {"model": os.path.join(TOP, "bench", "model", "model.c"), "in C": os.path.join(LIBRARY, "libbullmyrtle.a")}
 # What a processor of x86-64-v3 has, by the names in /proc/cpuinfo.
 V3 = {"avx2", "bmi1", "bmi2", "fma", "movbe", "abm", "f16c"}
 # What is measured where there is no kit.
@@ -34,13 +38,14 @@ class Contender(NamedTuple):
     words: Tuple[str, ...]
 
 
-def file_of_limit(label: str) -> str:
-    return os.path.join(TOP, "out", label.replace(" ", "_"))
+def file_of(label: str) -> str:
+    """Where a program in C is built."""
+    return os.path.join(TOP, "out", f"bench_{label.replace(' ', '_')}")
 
 
 def limits() -> List[Contender]:
     """The limit, as far as the processor runs it."""
-    return [Contender(it, (file_of_limit(it),)) for it in TARGETS if it == "limit" or has_v3()]
+    return [Contender(it, (file_of(it),)) for it in TARGETS if it == "limit" or has_v3()]
 
 
 def has_v3() -> bool:
@@ -123,5 +128,13 @@ def build_others() -> None:
     subprocess.run(["cargo", "build", "--release", "--offline", "--quiet"], cwd=FOLDER, check=True)
     os.makedirs(os.path.join(TOP, "out"), exist_ok=True)
     for label, target in TARGETS.items():
-        words = ["cc", "-std=c11", "-O3", f"-march={target}", LIMIT, "-o", file_of_limit(label)]
+        words = ["cc", "-std=c11", "-O3", f"-march={target}", LIMIT, "-o", file_of(label)]
         subprocess.run(words, check=True)
+
+
+def hosts_in_c() -> List[Contender]:
+    """The host over the model and over the library, built."""
+    words = ["cc", "-std=c11", "-D_POSIX_C_SOURCE=200809L", "-O2", f"-I{LIBRARY}", HOST]
+    for label, beneath in BENEATH.items():
+        subprocess.run([*words, beneath, "-o", file_of(label)], check=True)
+    return [Contender(it, (file_of(it),)) for it in BENEATH]

@@ -1,24 +1,32 @@
-"""What hosts are measured by, whose methods are their own code: loads in bulk and round trips, and how often each asks
-for memory for one small request."""
-import os
+"""What hosts are measured by, whose methods are their own code: loads in bulk and round trips, how often each asks for
+memory for one small request, and what it holds for an open one."""
 import sys
-from typing import List
+from typing import Dict, List, Tuple
 
-from measures.contenders import TOP, Contender, limits
-from measures.inputs import KEPT, TEXTS, add, add_with_blanks, cancel, frame, frames, request
+from measures.contenders import Contender, limits
+from measures.inputs import (
+    KEPT,
+    TEXTS,
+    Entry,
+    add,
+    add_with_blanks,
+    ask,
+    ask_with_string_id,
+    cancel,
+    frame,
+    frames,
+    reply_to,
+    request,
+)
 from measures.loads import FIRST, Load, Round, added, batches, bulk, cancelled, load, numbers, result, text_of
+from measures.running import Run
 from measures.serving import LONG_MESSAGES, Row
-
-sys.path.insert(0, os.path.join(TOP, "checks"))
-
-from support import refusals  # noqa: E402 (it stands in checks/)
+from support import refusals  # (it stands in checks/)
 
 # Requests for memory are counted of the second of so many requests.
 COUNTED = 1_000
-
-
-def ask(number: int, param: bytes = b'"x"') -> bytes:
-    return b'{"jsonrpc":"2.0","method":"ask","params":[%s],"id":%d}' % (param, number)
+# What is held is counted of so many open requests beside half as many.
+HELD = 20_000
 
 
 def confirm(number: int, param: bytes = b'"x"') -> bytes:
@@ -27,7 +35,7 @@ def confirm(number: int, param: bytes = b'"x"') -> bytes:
 
 
 def reply(number: int, value: bytes = b"true") -> bytes:
-    return b'{"jsonrpc":"2.0","id":%d,"result":%s}' % (number - 1, value)
+    return reply_to(number - 1, value)
 
 
 def requests(count: int) -> Load:
@@ -95,22 +103,45 @@ SMALL = {
     "an unknown method": request(1),
     "a notification": b'{"jsonrpc":"2.0","method":"note"}',
 }
+OPEN: Dict[str, Entry] = {"one of open calls": ask, "one, string id": ask_with_string_id}
+REQUESTED, BYTES = "requests for memory", "bytes held"
+
+
+def counted(host: Contender, given: bytes) -> Tuple[int, int]:
+    """The most bytes that a host holds, and how often it asks for memory."""
+    status, most, *_, number = refusals.counted([*host.words], given)
+    if status:
+        sys.exit(f"bench/run: {host.label} ends with the status {status}")
+    return most, number
 
 
 def requests_for_memory(host: Contender, entry: bytes) -> float:
     """How often a host asks for memory for an entry, once it has taken many of them."""
-    made = []
-    for count in (COUNTED, 2 * COUNTED):
-        status, *_, number = refusals.counted([*host.words], frame(entry) * count)
-        if status:
-            sys.exit(f"bench/run: {host.label} ends with the status {status}")
-        made.append(number)
-    return (made[1] - made[0]) / COUNTED
+    (_, few), (_, many) = (counted(host, frame(entry) * count) for count in (COUNTED, 2 * COUNTED))
+    return (many - few) / COUNTED
 
 
-def memory_table(contenders: List[Contender]) -> None:
+def bytes_held(host: Contender, entry: Entry, most: int) -> float:
+    """What one more open request takes, once there are many."""
+    (few, _), (many, _) = (counted(host, frames(entry, range(1, count + 1))) for count in (most // 2, most))
+    return (many - few) / (most - most // 2)
+
+
+def show_memory(title: str, name: str, found: Dict[str, float], run: Run) -> None:
+    for label, it in found.items():
+        print(f"{name:20} {label:17} {it:>10.2f}", flush=True)
+    run.figures.note(title, "each", name, found)
+
+
+def memory_tables(hosts: List[Contender], run: Run) -> None:
     """(the limit keeps one block, and says nothing of how a host keeps its texts)"""
-    print(f"{'requests for memory':20} {'program':17} {'of each':>10}")
-    for name, entry in SMALL.items():
-        for host in (it for it in contenders if it not in limits()):
-            print(f"{name:20} {host.label:17} {requests_for_memory(host, entry):>10.2f}", flush=True)
+    print(f"{REQUESTED:20} {'program':17} {'of each':>10}")
+    for name, small in SMALL.items():
+        found = {it.label: requests_for_memory(it, small) for it in hosts if it not in limits()}
+        show_memory(REQUESTED, name, found, run)
+    print()
+    print(f"{BYTES:20} {'program':17} {'of each':>10}")
+    for name, entry in OPEN.items():
+        most = max(2, HELD // run.small)
+        show_memory(BYTES, name, {it.label: bytes_held(it, entry, most) for it in hosts}, run)
+    run.figures.keep()

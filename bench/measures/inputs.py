@@ -1,10 +1,12 @@
 """Inputs to play: entries, frames of them, and what each row of the table reads."""
 from functools import partial
-from typing import Callable, Iterable, Iterator, NamedTuple, Tuple
+from typing import Callable, Iterable, Iterator, NamedTuple, Optional, Tuple
 
 from measures.messages import LENGTH, MESSAGES, Message, parts_of
 
 Entry = Callable[[int], bytes]
+# Of arrays that a host answers with.
+ITEM = b'{"detail":"def method(self, value: int) -> str","kind":2,"label":"method"}'
 
 
 def frame(content: bytes) -> bytes:
@@ -53,6 +55,18 @@ def reply(number: int, result: bytes = b"true") -> bytes:
     return b'{"jsonrpc":"2.0","id":"%d.1","result":%s}' % (number, result)
 
 
+def reply_to(key: int, result: bytes = b"true") -> bytes:
+    """The reply to a host's call with this key."""
+    return b'{"jsonrpc":"2.0","id":%d,"result":%s}' % (key, result)
+
+
+def with_string_id(entry: Entry) -> Entry:
+    return lambda number: entry(number).replace(b'"id":%d}' % number, b'"id":"id-%d"}' % number)
+
+
+add_with_string_id, ask_with_string_id = with_string_id(add), with_string_id(ask)
+
+
 def hundreds(count: int) -> Iterator[range]:
     return (range(first, min(first + 100, count + 1)) for first in range(1, count + 1, 100))
 
@@ -99,6 +113,32 @@ def batches_of_calls_back(count: int) -> bytes:
     return b"".join(batch(ask, it) + batch(reply, it) for it in hundreds(count))
 
 
+def calls_back_of_hosts(count: int) -> bytes:
+    return b"".join(frame(ask(it)) + frame(reply_to(it)) for it in range(1, count + 1))
+
+
+def open_calls(count: int, entry: Entry = ask) -> bytes:
+    """All requests first, and then all replies to a host's calls on their behalf, the last first."""
+    return frames(entry, range(1, count + 1)) + frames(reply_to, range(count, 0, -1))
+
+
+def items_of(size: int) -> Tuple[int, int]:
+    """How many long results so many bytes are, and how many items each has."""
+    count, length = parts_of(size)
+    return count, max(1, length // (len(ITEM) + 1))
+
+
+def long_results(size: int) -> bytes:
+    count, items = items_of(size)
+    form = b'{"jsonrpc":"2.0","method":"give","params":[%d,%s],"id":%d}'
+    return frames(lambda number: form % (items, ITEM, number), range(1, count + 1))
+
+
+def bytes_of_results(size: int) -> int:
+    count, items = items_of(size)
+    return count * (items * (len(ITEM) + 1) + 1)
+
+
 def long_messages(message: Message, size: int, method: str = "nope") -> bytes:
     count, length = parts_of(size)
     return b"".join(map(frame, message.entries(length, range(1, count + 1), method)))
@@ -110,7 +150,8 @@ def long_text(count: int) -> bytes:
 
 class Input(NamedTuple):
     """A row of the table: how what it reads is made, its size, which counts requests, or bytes where a request has a
-    length, and what ours does that the baseline doesn't, where it takes longer."""
+    length, and what ours does that the baseline doesn't, where it takes longer. Its bytes are those that it reads, but
+    for those of results."""
 
     name: str
     make: Callable[[int], bytes]
@@ -119,9 +160,13 @@ class Input(NamedTuple):
     has_methods: bool = False
     has_calls: bool = False  # the other side is called, by ids that are other ones in a host
     length: int = 0
+    results: Optional[Callable[[int], int]] = None
 
     def requests(self, size: int) -> int:
         return max(1, size // self.length) if self.length else size
+
+    def bytes_of(self, size: int, given: bytes) -> int:
+        return self.results(size) if self.results else len(given)
 
 
 DESK = "each request has a place at the desk and a stage in the session, and its call is shared by both"
@@ -165,9 +210,14 @@ INPUTS: Tuple[Input, ...] = (
     Input("the same in batches", batches_of_calls_back, 100_000, STEPS, has_methods=True, has_calls=True),
     CANCELS,
 )
-# What hosts answer too, as a `play` does: there the ids of calls are keys.
-HOSTED: Tuple[Input, ...] = tuple(
-    it._replace(why=TEXTS if it.length else KEPT) for it in (*HOVERS, *LONG, *ADDS, ADDS_IN_BATCHES, CANCELS)
+# What hosts answer too, as a `play` does; and what they alone do, since there the ids of calls are keys.
+HOSTED: Tuple[Input, ...] = (
+    *(it._replace(why=TEXTS if it.length else KEPT) for it in (*HOVERS, *LONG, *ADDS, ADDS_IN_BATCHES, CANCELS)),
+    Input("adds, string ids", partial(singles, entry=add_with_string_id), 200_000, KEPT),
+    Input("calls back", calls_back_of_hosts, 100_000, KEPT),
+    Input("open calls", open_calls, 100_000, KEPT),
+    Input("open, string ids", partial(open_calls, entry=ask_with_string_id), 100_000, KEPT),
+    Input("long results", long_results, 8 * LENGTH, TEXTS, length=LENGTH, results=bytes_of_results),
 )
 
 # Each method, replied to with a result, an error and not at all, in a batch and alone, and cancelled: it is compared,

@@ -1,4 +1,4 @@
-//! A host: two methods in its own code, `add` and `ask`, each request answered as soon as it can be.
+//! A host: three methods in its own code, `add`, `give` and `ask`, each request answered as soon as it can be.
 use crate::message::{answer, call_with, error_object, notice, Entry, Outcome};
 use crate::method::{invalid_params, no_reply};
 use crate::side::{write_frame, Side};
@@ -100,6 +100,7 @@ impl<W: Write> Host<W> {
     fn start(&mut self, id: Value, place: Place, method: &str, params: Value) -> io::Result<()> {
         match method {
             "add" => self.give(place, answer(id, sum(&params))),
+            "give" => self.give(place, answer(id, repeated(&params))),
             "ask" => {
                 self.keys += 1;
                 self.asked.insert(self.keys, Asked { id, place });
@@ -170,4 +171,11 @@ fn sum(params: &Value) -> Outcome {
         sum = sum.checked_add(number).ok_or_else(|| error_object(-32603, "Internal error"))?;
     }
     Ok(sum.into())
+}
+
+/// An array of so many times a value, by params `[N,VALUE]`.
+fn repeated(params: &Value) -> Outcome {
+    let count = params.get(0).and_then(Value::as_u64).filter(|&it| it > 0).ok_or_else(invalid_params)?;
+    let item = params.get(1).ok_or_else(invalid_params)?;
+    Ok(vec![item.clone(); count as usize].into())
 }

@@ -1,6 +1,6 @@
 //! A plain JSON-RPC 2.0 peer with six methods built in, as one writes it without proofs: buffered, one thread, `serde_json`.
 //!
-//! Its methods are those of `bench/baseline/methods.toml`. With the word `host` it has the two methods of `bench/embedded/host.c`, and
+//! Its methods are those of `bench/baseline/methods.toml`. With the word `host` it has the methods of `bench/embedded/host.c`, and
 //! answers each request as soon as it can. What is written is flushed whenever no input waits.
 mod host;
 mod message;

@@ -55,6 +55,10 @@ impl Host {
                 Some(sum) => self.connection.answer(number, &sum.to_string()),
                 None => self.connection.fail(number, -32602, "Invalid params", None),
             },
+            "give" => match params.and_then(repeated) {
+                Some(array) => self.connection.answer(number, &array),
+                None => self.connection.fail(number, -32602, "Invalid params", None),
+            },
             "ask" => {
                 let key = self.connection.call(number, "confirm", params)?;
                 self.asked.insert(key, number);
@@ -70,4 +74,11 @@ fn sum(params: &str) -> Option<i64> {
     let items = params.strip_prefix('[')?.strip_suffix(']')?;
     let mut numbers = items.split(',').filter(|it| !it.is_empty());
     numbers.try_fold(0i64, |sum, it| sum.checked_add(it.parse().ok()?))
+}
+
+/// An array of so many times a value, by params `[N,VALUE]`, which have no blanks.
+fn repeated(params: &str) -> Option<String> {
+    let (count, item) = params.strip_prefix('[')?.strip_suffix(']')?.split_once(',')?;
+    let count = count.parse().ok().filter(|&it: &usize| it > 0)?;
+    Some(format!("[{}]", vec![item; count].join(",")))
 }
