@@ -1,11 +1,11 @@
 """usage: python3 checks/c_judge_costs.py [--library FOLDER] [--count N]      judges N requests and answers, 10,000 where none are named
 
 What judging takes, by `support/judge_costs.c` over the C library: instructions of requests and their answers before the
-judge, beside those of a connection that is fed the same requests and answers them. And what it takes grows with what is
+judge, and of a connection that is fed the same requests and answers them. And what it takes grows with what is
 judged and no faster, where all is answered at once, and where all is open before the first answer comes, with ids that
 are numbers and that are strings: twice as many take at most 2.2 times the instructions, as do contents that can't be
 read behind as many open requests, and the memory of 200,000 is at most 2.2 times that of 100,000; and where all is answered
-at once, with ids that are numbers, 1,000, 100,000 and 200,000 hold the same bytes, 21,208. Instructions are callgrind's."""
+at once, with ids that are numbers, 1,000, 100,000 and 200,000 hold the same bytes, 21,400. Instructions are callgrind's."""
 import argparse
 import os
 import subprocess
@@ -19,9 +19,9 @@ from support.c_programs import C99, SUPPORT, build, default_library, is_whole
 from support.callgrind import instructions
 
 COUNT, MOST_GROWTH = 10_000, 2.2
-# A request and its answer before the judge take so many times what a connection takes for them: a fortieth more than was
-# measured (docs/performance.md).
-MOST_TIMES = 3.14
+# A request and its answer take at most so many instructions: a fortieth more than was measured (docs/performance.md). Each
+# has a bound of its own: one by the other would fail where a connection takes less.
+MOST_INSTRUCTIONS = {"connection": 5_995, "passed": 19_180}
 FEWEST_HELD, FEW_HELD, MANY_HELD = 1_000, 100_000, 200_000
 KINDS = tuple(f"{way}{ids}" for ids in ("", "-strings") for way in ("passed", "open", "reversed"))
 # Contents that can't be read, behind as many open requests.
@@ -47,7 +47,7 @@ def check_instructions(count: ran.Count, program: str, most: int) -> None:
     count.check("all are counted", not failed, failed)
     if not failed:
         taken = {kind: [it or 0 for it in them] for kind, them in found.items()}
-        check_times(count, taken, most)
+        check_each(count, taken, most)
         for kind in (*KINDS, UNREADABLE):
             check_growth(count, kind, taken[kind], most)
 
@@ -56,18 +56,13 @@ def each(taken: list[int], most: int) -> float:
     return (taken[2] - taken[1]) / (most - most // 2)
 
 
-def check_times(count: ran.Count, taken: dict[str, list[int]], most: int) -> None:
-    """How many times what a connection takes; the making of the texts is left out of both."""
-    none, connection, judge = (each(taken[it], most) for it in ("none", "connection", "passed"))
-    times = (judge - none) / (connection - none)
-    print(
-        f"a request and its answer, {most:,} of them: {connection - none:,.0f} instructions by a connection, "
-        f"{judge - none:,.0f} by the judge: {times:.2f} times",
-        flush=True,
-    )
-    count.check(
-        f"the judge takes at most {MOST_TIMES} times what a connection does", times <= MOST_TIMES, f"{times:.2f}"
-    )
+def check_each(count: ran.Count, taken: dict[str, list[int]], most: int) -> None:
+    """What a request and its answer take by a connection and before the judge, without the making of the texts."""
+    none = each(taken["none"], most)
+    for kind, bound in MOST_INSTRUCTIONS.items():
+        found = each(taken[kind], most) - none
+        print(f"{kind}: {found:,.0f} instructions for a request and its answer, of {most:,}", flush=True)
+        count.check(f"{kind}: at most {bound:,} instructions each", 0 < found <= bound, f"{found:,.0f}")
 
 
 def growth_of(taken: list[int]) -> float:
