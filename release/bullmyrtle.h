@@ -419,6 +419,13 @@ int32_t bm_written(bm_connection *connection, size_t length);
  * you send. */
 size_t bm_pending(bm_connection *connection);
 
+/* Returns for how many bytes its buffers have room: what is to be written, lent or not, the texts of the event that was
+ * reported last, and the next message. Once all is written it is small again, whatever was written before: at most
+ * 73,728, the block that bm_output lent last, and those texts. It doesn't count what has memory of its own: requests
+ * and notifications that are open, events that aren't reported yet, what was fed and isn't whole, and with BM_CONTENTS
+ * the messages that wait. */
+size_t bm_held(bm_connection *connection);
+
 /* Returns whether all is done: the input has ended, every event is reported, every received request and notification
  * is answered, and every byte is written. */
 bool bm_is_done(bm_connection *connection);
