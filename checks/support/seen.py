@@ -26,6 +26,7 @@ IDLE = re.compile(
 # What stands in the module `tests`, which no check but that of the tests reads.
 TESTS = re.compile(r"^[ \t]*#\[cfg\(test\)\]\s*mod \w+;\n", re.M)
 USE = re.compile(r"(?<!pub )(?<!ghost )(?<!\) )\buse (?P<path>[\w:]+?)(?:::\{(?P<names>[\w,\s]+)\})?;\n?")
+GHOST_USE = re.compile(r"^[ \t]*ghost use (?P<path>[\w.]+)\.\{(?P<names>[^{}]*)\};\n", re.M)
 # A function that isn't seen, and with it the lines of comments and attributes above it.
 HIDDEN = "\0"
 WITH_HIDDEN = re.compile(rf"(?:^ *(?:#\[|//).*\n)*{HIDDEN}", re.M)
@@ -56,17 +57,27 @@ def without_bodies(functions: list[Function], text: str, is_own: bool) -> str:
     return IDLE.sub(lambda it: it["quoted"] or "", TESTS.sub("", WITH_HIDDEN.sub("", text)))
 
 
+def is_cited(name: str, text: str) -> bool:
+    """Whether clauses of the text may cite what a ghost import names: of an operator, what stands between its places."""
+    parts = [it for it in name.rpartition(" as ")[2].split("◌") if it]
+    return all(re.search(rf"(?<![\w'-]){re.escape(it)}(?![\w'>-])", text) is not None for it in parts)
+
+
 def without_idle_uses(text: str) -> str:
-    """A text without the imports that no other word of it names, as far as these are of functions and modules: what
-    has a small letter."""
-    rest = USE.sub("", text)
+    """A text without the imports that no other word of it names, as far as these are of functions and modules, which
+    have a small letter, or of what clauses cite."""
+    rest = GHOST_USE.sub("", USE.sub("", text))
 
     def kept(use: "re.Match[str]") -> str:
         names = [it.strip() for it in (use["names"] or use["path"].rpartition("::")[2]).split(",")]
         named = [it for it in names if it and (not it[0].islower() or re.search(rf"\b{it.split()[-1]}\b", rest))]
         return f"use {use['path']} {named};\n" if named else ""
 
-    return USE.sub(kept, text)
+    def cited(use: "re.Match[str]") -> str:
+        named = [it for it in map(str.strip, use["names"].split(",")) if is_cited(it, rest)]
+        return f"ghost use {use['path']} {named};\n" if named else ""
+
+    return GHOST_USE.sub(cited, USE.sub(kept, text))
 
 
 def read(file: str) -> str:
