@@ -9,4 +9,5 @@ pub mod NumberItems
 pub mod Placed
 pub mod ReadBack
 pub mod Runs
+mod Spaced
 pub mod Whole

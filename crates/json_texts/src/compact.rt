@@ -13,7 +13,7 @@ ghost use Rattle.json_texts.specs.Naturals.{HasNumberItems, HasLastNumbers};
 ghost use Rattle.json.specs.Word.{after_number};
 
 use crate::json_text::MOST_DEPTH_OUT;
-use crate::naturals::past_naturals;
+use crate::naturals::{digits_end, past_naturals};
 use crate::plain::next_stop;
 
 /// Whether the text is a `JsonText`. It may be one also where this isn't seen.
@@ -290,19 +290,6 @@ pub(crate) fn natural_end(text: &[u8], from: usize) -> Option<usize>
         b'.' | b'e' | b'E' => None,
         _ => Some(end),
     }
-}
-
-#[inline(always)]
-fn digits_end(text: &[u8], from: usize) -> usize
-    requires { from ≤ length text.now }
-    ensures value { result ≡ from + prefix_len is_ascii_digit (drop from text.now) }
-    ensures bound { result ≤ length text.now }
-{
-    let mut at = from;
-    while at < text.len() && text[at] >= b'0' && text[at] <= b'9' {
-        at += 1;
-    }
-    at
 }
 
 /// Apart, since few numbers have a fraction or an exponent.

@@ -1,14 +1,15 @@
 //! Texts that aren't compact, made so without a tree of their values.
 
-ghost use Rattle.std.specs.Prelude.{◌≡◌, ◌≢◌, ◌≤◌, ◌<◌, ◌+◌, ◌-◌, ◌++◌, IfOk, OnOk, IfSome, IsTrue, length, get_or, drop, slice_range, string_bytes, true};
-ghost use Rattle.std.specs.Str.{IsCharBoundary};
-ghost use Rattle.json.specs.Lex.{tokens};
+ghost use Rattle.std.specs.Prelude.{◌≡◌, ◌≢◌, ◌≤◌, ◌<◌, ◌+◌, ◌++◌, IfOk, OnOk, IfSome, IsTrue, List, ℕ, length, get_or, drop, slice_range, true};
+ghost use Rattle.std.specs.List.{prefix_len};
+ghost use Rattle.json.specs.Lex.{Lexeme, lex, between, tokens};
 ghost use Rattle.json.specs.Text.{code_unit};
 ghost use Rattle.json.specs.Word.{is_space, is_operator, ends_word};
-ghost use Rattle.std.specs.Char.{digit_value};
+ghost use Rattle.std.specs.Char.{digit_value, encode_utf8};
 ghost use Rattle.json_texts.specs.Compacting.{HasShortest, HasWord, HasLongEscape, HasCompactString};
 
 use crate::compact::{byte_at, natural_end, number_end, shortest_end, word_end};
+use crate::utf8::utf8_text;
 use json_values::Text;
 use std::alloc::{AllocError, Global};
 
@@ -18,28 +19,33 @@ use std::alloc::{AllocError, Global};
 pub fn compacted(alloc: Global, text: &str) -> Result<Option<Text>, AllocError>
     ensures { IfOk result (λ r. IfSome r (λ compact. tokens compact ≡ tokens text.now)) }
 {
-    let mut out = String::new(alloc);
-    if append_tokens(text, &mut out)? {
-        Ok(Some(Text::from(out)))
-    } else {
-        Ok(None)
+    let mut out = Vec::new(alloc);
+    if !append_tokens(text.as_bytes(), &mut out)? {
+        return Ok(None);
+    }
+    // (To look once more takes less than to append no part that isn't a text by itself.)
+    match utf8_text(out.as_slice()) {
+        Some(_) => Ok(Some(Text::from(unsafe { String::from_utf8_unchecked(out) }))),
+        None => Ok(None),
     }
 }
 
 /// Whether all is appended.
-fn append_tokens(text: &str, out: &mut String) -> Result<bool, AllocError>
-    requires { length (string_bytes out.old) ≡ 0 }
-    ensures { IfOk result (λ done. IsTrue done → tokens (string_bytes out.new) ≡ tokens text.now) }
+fn append_tokens(text: &[u8], out: &mut Vec<u8>) -> Result<bool, AllocError>
+    requires { length out.old.items ≡ 0 }
+    ensures { IfOk result (λ done. IsTrue done → tokens out.new.items ≡ tokens text.now) }
 {
-    let bytes = text.as_bytes();
     let mut kept = 0;
     let mut at = 0;
     let mut after_word = false;
-    while at < bytes.len() {
-        let byte = bytes[at];
+    while at < text.len() {
+        let byte = text[at];
         if is_blank(byte) {
             append(text, kept, at, out)?;
-            at += 1;
+            at = blanks_end(text, at + 1);
+            if !after_word {
+                at = append_naturals(text, at, out)?;
+            }
             kept = at;
         } else if is_punctuation(byte) {
             at += 1;
@@ -53,7 +59,7 @@ fn append_tokens(text: &str, out: &mut String) -> Result<bool, AllocError>
             at = end;
             kept = from;
         } else {
-            let Some(end) = token_end(bytes, at) else {
+            let Some(end) = token_end(text, at) else {
                 return Ok(false);
             };
             at = end;
@@ -67,41 +73,83 @@ fn append_tokens(text: &str, out: &mut String) -> Result<bool, AllocError>
     Ok(true)
 }
 
+/// Appends the integers without a sign that follow one another in an array, each with its comma, and passes the blanks
+/// behind them. Gives where something else begins.
+#[inline(always)]
+fn append_naturals(text: &[u8], from: usize, out: &mut Vec<u8>) -> Result<usize, AllocError>
+    requires { from ≤ length text.now }
+    ensures same { IfOk result (λ end. (lexemes : List Lexeme) × (added : List ℕ) × (out.new.items ≡ out.old.items ++ added) ×
+        (lex between (drop from text.now) ≡ lexemes ++ lex between (drop end text.now)) ×
+        ((rest : List ℕ) → lex between (added ++ rest) ≡ lexemes ++ lex between rest)) }
+    ensures bounds { IfOk result (λ end. (from ≤ end) × (end ≤ length text.now)) }
+{
+    let mut at = from;
+    while at < text.len() {
+        let Some(end) = natural_end(text, at) else {
+            return Ok(at);
+        };
+        if byte_at(text, end) != b',' {
+            return Ok(at);
+        }
+        append_short(text, at, end + 1, out)?;
+        at = blanks_end(text, end + 1);
+    }
+    Ok(at)
+}
+
+/// The end of the blanks that begin there.
+#[inline(always)]
+fn blanks_end(text: &[u8], from: usize) -> usize
+    requires { from ≤ length text.now }
+    ensures value { result ≡ from + prefix_len is_space (drop from text.now) }
+    ensures bound { result ≤ length text.now }
+{
+    let mut at = from;
+    while at < text.len() && is_blank(text[at]) {
+        at += 1;
+    }
+    at
+}
+
 /// Appends the string whose first quote stands before `from`, but for its last bytes. Gives its end, and where the bytes
 /// begin that aren't appended yet.
 fn append_string(
-    text: &str,
+    text: &[u8],
     kept: usize,
     from: usize,
-    out: &mut String,
+    out: &mut Vec<u8>,
 ) -> Result<Option<(usize, usize)>, AllocError>
-    requires bounds { (kept ≤ from) × (from ≤ length text.now) }
-    requires boundary { IsCharBoundary text.now kept }
+    requires { (kept ≤ from) × (from ≤ length text.now) }
     ensures string { IfOk result (λ r. IfSome r (λ ends. HasCompactString text.now from
-        (string_bytes out.old ++ slice_range text.now kept from)
-        (string_bytes out.new ++ slice_range text.now ends.1 ends.0) ends.0)) }
+        (out.old.items ++ slice_range text.now kept from)
+        (out.new.items ++ slice_range text.now ends.1 ends.0) ends.0)) }
     ensures bounds { IfOk result (λ r. IfSome r (λ ends. (ends.1 ≤ ends.0) × (from < ends.0) × (ends.0 ≤ length text.now))) }
-    ensures boundary { IfOk result (λ r. IfSome r (λ ends. IsCharBoundary text.now ends.1)) }
 {
-    let bytes = text.as_bytes();
     let mut kept = kept;
     let mut at = from;
-    while at < bytes.len() {
-        let Some(stop) = stop_from(bytes, at) else {
+    while at < text.len() {
+        let Some(stop) = stop_from(text, at) else {
             return Ok(None);
         };
-        if bytes[stop] == b'"' {
+        if text[stop] == b'"' {
             return Ok(Some((stop + 1, kept)));
         }
-        let Some((character, end)) = long_escape(bytes, stop) else {
+        let Some((character, end)) = long_escape(text, stop) else {
             return Ok(None);
         };
         append(text, kept, stop, out)?;
-        out.push(character)?;
+        append_character(character, out)?;
         at = end;
         kept = end;
     }
     Ok(None)
+}
+
+fn append_character(character: char, out: &mut Vec<u8>) -> Result<(), AllocError>
+    ensures { OnOk result (out.new.items ≡ out.old.items ++ encode_utf8 character) }
+{
+    let mut bytes = [0; 4];
+    out.extend_from_slice(character.encode_utf8(&mut bytes).as_bytes())
 }
 
 /// As `shortest_end`. Escapes of four digits come in rows, so the next one is looked for right there.
@@ -124,7 +172,6 @@ fn long_escape(text: &[u8], at: usize) -> Option<(char, usize)>
     requires backslash { get_or text.now at 0 ≡ 92 }
     ensures escape { IfSome result (λ e. HasLongEscape text.now at e.0 e.1) }
     ensures bounds { IfSome result (λ e. (at < e.1) × (e.1 ≤ length text.now)) }
-    ensures ascii { IfSome result (λ e. get_or text.now (e.1 - 1) 0 < 128) }
 {
     let letter = byte_at(text, at + 1);
     if letter == b'/' {
@@ -144,9 +191,8 @@ fn long_escape(text: &[u8], at: usize) -> Option<(char, usize)>
 /// The number that four hexadecimal digits spell.
 fn four_digits(text: &[u8], at: usize) -> Option<u32>
     requires { at + 4 ≤ length text.now }
-    ensures value { IfSome result (λ unit. code_unit (get_or text.now at 0) (get_or text.now (at + 1) 0) (get_or text.now (at + 2) 0)
+    ensures { IfSome result (λ unit. code_unit (get_or text.now at 0) (get_or text.now (at + 1) 0) (get_or text.now (at + 2) 0)
         (get_or text.now (at + 3) 0) ≡ Some unit) }
-    ensures ascii { IfSome result (λ _. get_or text.now (at + 3) 0 < 128) }
 {
     let (a, b, c, d) = (
         digit(text[at]),
@@ -162,8 +208,7 @@ fn four_digits(text: &[u8], at: usize) -> Option<u32>
 }
 
 fn digit(letter: u8) -> u32
-    ensures value { result ≡ digit_value letter }
-    ensures ascii { result < 16 → letter < 128 }
+    ensures { result ≡ digit_value letter }
 {
     match letter {
         b'0'..=b'9' => (letter - b'0') as u32,
@@ -233,11 +278,9 @@ fn is_punctuation(byte: u8) -> bool
 
 /// Appends this part of the text. What a whole text takes is asked for at once, and only where something is appended.
 #[inline(always)]
-fn append(text: &str, from: usize, to: usize, out: &mut String) -> Result<(), AllocError>
-    requires bounds { from ≤ to }
-    requires begins { IsCharBoundary text.now from }
-    requires ends { IsCharBoundary text.now to }
-    ensures { OnOk result (string_bytes out.new ≡ string_bytes out.old ++ slice_range text.now from to) }
+fn append(text: &[u8], from: usize, to: usize, out: &mut Vec<u8>) -> Result<(), AllocError>
+    requires { (from ≤ to) × (to ≤ length text.now) }
+    ensures { OnOk result (out.new.items ≡ out.old.items ++ slice_range text.now from to) }
 {
     if from == to {
         return Ok(());
@@ -245,5 +288,22 @@ fn append(text: &str, from: usize, to: usize, out: &mut String) -> Result<(), Al
     if out.is_empty() {
         out.reserve(text.len())?;
     }
-    out.push_str(&text[from..to])
+    out.extend_from_slice(&text[from..to])
+}
+
+/// The same of a part that has few bytes most of the time, of which a text can have many: they are moved by one store, with
+/// those behind them.
+#[inline(always)]
+fn append_short(text: &[u8], from: usize, to: usize, out: &mut Vec<u8>) -> Result<(), AllocError>
+    requires { (from ≤ to) × (to ≤ length text.now) }
+    ensures { OnOk result (out.new.items ≡ out.old.items ++ slice_range text.now from to) }
+{
+    let count = to - from;
+    if count > 16 || text.len() - from < 16 {
+        return append(text, from, to, out);
+    }
+    let before = out.len();
+    out.extend_from_slice(&text[from..from + 16])?;
+    out.truncate(before + count);
+    Ok(())
 }

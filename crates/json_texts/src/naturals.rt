@@ -1,6 +1,7 @@
-//! Integers without a sign that follow one another in an array, as semantic tokens do: 16 bytes are passed at a time.
+//! Integers without a sign, of which an array can have many, as semantic tokens do: 16 bytes are passed at a time.
 
-ghost use Rattle.std.specs.Prelude.{◌≡◌, ◌≢◌, ◌≤◌, ◌<◌, ◌-◌, ◌==◌, IsTrue, false, get_or, length, map};
+ghost use Rattle.std.specs.Prelude.{◌≡◌, ◌≢◌, ◌≤◌, ◌<◌, ◌+◌, ◌-◌, ◌==◌, IsTrue, false, not, drop, get_or, length, map};
+ghost use Rattle.std.specs.List.{prefix_len};
 ghost use Rattle.std.specs.Char.{is_ascii_digit};
 ghost use Rattle.std.specs.Simd.Lanes.{mask_l};
 ghost use Rattle.json_texts.specs.Naturals.{HasNumberItems, HasLastNumbers};
@@ -108,6 +109,44 @@ fn naturals_end(some: u8x16) -> usize
     let up_to_first_misfit = fit ^ (fit + 1);
     let ends = (commas | brackets) & up_to_first_misfit;
     (64 - ends.leading_zeros()) as usize
+}
+
+/// The end of the digits that begin there.
+#[inline(always)]
+pub(crate) fn digits_end(text: &[u8], from: usize) -> usize
+    requires { from ≤ length text.now }
+    ensures value { result ≡ from + prefix_len is_ascii_digit (drop from text.now) }
+    ensures bound { result ≤ length text.now }
+{
+    if text.len() - from < 16 {
+        return digits_end_slowly(text, from);
+    }
+    let others = others_of(u8x16::from_slice(&text[from..]));
+    if others != 0 {
+        return from + others.trailing_zeros() as usize;
+    }
+    digits_end_slowly(text, from + 16)
+}
+
+/// Where bytes are no digits.
+#[inline(always)]
+fn others_of(some: u8x16) -> u64
+    ensures { result ≡ mask_l (map (λ x. not (is_ascii_digit x)) some) }
+{
+    (some.simd_lt(u8x16::splat(b'0')) | some.simd_gt(u8x16::splat(b'9'))).to_bitmask()
+}
+
+#[inline(always)]
+fn digits_end_slowly(text: &[u8], from: usize) -> usize
+    requires { from ≤ length text.now }
+    ensures value { result ≡ from + prefix_len is_ascii_digit (drop from text.now) }
+    ensures bound { result ≤ length text.now }
+{
+    let mut at = from;
+    while at < text.len() && text[at] >= b'0' && text[at] <= b'9' {
+        at += 1;
+    }
+    at
 }
 
 #[inline(always)]

@@ -1,68 +1,72 @@
-use Rattle.std.proofs.Common.{◌<◌, ◌≤◌, ◌≡◌, ◌+◌, ℕ, get_or, drop, length, string_bytes, Option, IfSome, true, false, sym, subst, ap, ◌∙◌, arith}
-use Rattle.std.proofs.lemmas.Str.{IsCharBoundary-start, IsCharBoundary-after_ascii}
-use Rattle.json.specs.Word.{is_space, is_operator, ends_word}
-use Rattle.std.specs.Str.{IsCharBoundary}
-use Rattle.json_texts.specs.Compacting.{HasCompactString, HasWord}
-use Rattle.json_texts.proofs.Lexed.{With, ReadsSame, begin_text, past_blank, past_operator, past_string, past_word, same_tokens, space_is_ascii}
+use Rattle.std.proofs.Common.{◌<◌, ◌≤◌, ◌≡◌, ◌+◌, ℕ, length, Option, IfSome, List, Bool, false, sym, subst, ◌∙◌, arith}
+use Rattle.json_texts.specs.Compacting.{HasCompactString}
+use Rattle.json_texts.proofs.Lexed.{With, ReadsSame, begin_text, past_operator, past_string, past_word, same_tokens}
+use Rattle.json_texts.proofs.Spaced.{past_gap, nothing_kept, reads_on}
 use Rattle.json_texts.proofs.compacting.append_tokens.Goals as goal
 
 pub loop-at-init : goal.loop-at-init
 loop-at-init c = record {
   order = omega arith;
   within = omega arith;
-  boundary = IsCharBoundary-start c.args.text.now c.utf8.text;
-  same = begin_text c.args.text.now (string_bytes c.args.out.now) c.requires;
+  same = begin_text c.args.text.now c.args.out.now.items c.requires;
 }
 
-pub loop-at-preserved-then-is_blank : goal.loop-at-preserved-then-is_blank
-loop-at-preserved-then-is_blank c =
+-- where no word stands in front
+no_word : (text w : List ℕ) (at : ℕ) (f : Bool) → f ≡ false → ReadsSame text w at f → ReadsSame text w at false
+no_word text w at f is r = subst (λ g. ReadsSame text w at g) is r
+
+pub loop-at-preserved-in_ok-at : goal.loop-at-preserved-in_ok-at
+loop-at-preserved-in_ok-at c =
     let text = c.args.text.now in
-    let at = c.loop-at.at in
-    let value = c.as_bytes-bytes.ensures.value in
-    let within : at < length text = omega (arith, c.loop-at-test.true, ap length value) in
-    let is : is_space (get_or text at 0) ≡ true = ap (λ t. is_space (get_or t at 0)) (sym value) ∙ sym c.is_blank.ensures ∙ c.if-is_blank.true in
+    let new = c.append.new.out.items in
+    let gap = c.blanks_end-at.result in
+    let end = c.in_ok-at.at in
+    let same = no_word text new gap c.loop-at.after_word c.if-not-after_word.true
+    (past_gap text c.loop-at.out.items new c.loop-at.kept c.loop-at.at gap c.loop-at.after_word (omega arith) (sym c.is_blank.ensures ∙ c.if-is_blank.true) c.in_ok-append.ensures c.blanks_end-at.ensures.value c.loop-at.invariant.same) in
+    let now = c.append_naturals.new.out.items in
     record {
       order = omega arith;
-      within = omega (arith, within);
-      boundary = IsCharBoundary-after_ascii text at c.utf8.text within (space_is_ascii (get_or text at 0) is);
-      same = past_blank text (string_bytes c.loop-at.out) (string_bytes c.append.new.out) c.loop-at.kept at c.loop-at.after_word within is c.loop-at.invariant.same c.in_ok-append.ensures;
+      within = c.in_ok-at.ensures.bounds.1;
+      same = subst (λ f. ReadsSame text (With now text end end) end f) (sym c.if-not-after_word.true) (nothing_kept text now end false (reads_on text new now gap end same c.in_ok-at.ensures.same));
+    }
+
+pub loop-at-preserved-else-not-after_word : goal.loop-at-preserved-else-not-after_word
+loop-at-preserved-else-not-after_word c =
+    let text = c.args.text.now in
+    let new = c.append.new.out.items in
+    let end = c.blanks_end-at.result in
+    record {
+      order = omega arith;
+      within = c.blanks_end-at.ensures.bound;
+      same = nothing_kept text new end c.loop-at.after_word
+          (past_gap text c.loop-at.out.items new c.loop-at.kept c.loop-at.at end c.loop-at.after_word (omega arith) (sym c.is_blank.ensures ∙ c.if-is_blank.true) c.in_ok-append.ensures c.blanks_end-at.ensures.value c.loop-at.invariant.same);
     }
 
 pub loop-at-preserved-then-is_punctuation : goal.loop-at-preserved-then-is_punctuation
 loop-at-preserved-then-is_punctuation c =
-    let text = c.args.text.now in
-    let at = c.loop-at.at in
-    let value = c.as_bytes-bytes.ensures.value in
-    let before = c.loop-at.invariant.order in
-    let within : at < length text = omega (arith, c.loop-at-test.true, ap length value) in
-    let is : is_operator (get_or text at 0) ≡ true = ap (λ t. is_operator (get_or t at 0)) (sym value) ∙ sym c.is_punctuation.ensures ∙ c.if-is_punctuation.true in
+    let before = c.loop-at.invariant in
     record {
-      order = omega (arith, before);
-      within = omega (arith, within);
-      boundary = c.loop-at.invariant.boundary;
-      same = past_operator text (string_bytes c.loop-at.out) c.loop-at.kept at c.loop-at.after_word before within is c.loop-at.invariant.same;
+      order = omega (arith, before.order);
+      within = omega arith;
+      same = past_operator c.args.text.now c.loop-at.out.items c.loop-at.kept c.loop-at.at c.loop-at.after_word before.order (omega arith) (sym c.is_punctuation.ensures ∙ c.if-is_punctuation.true) before.same;
     }
 
 pub loop-at-preserved-then-byte-eq34 : goal.loop-at-preserved-then-byte-eq34
 loop-at-preserved-then-byte-eq34 c =
     let text = c.args.text.now in
     let at = c.loop-at.at in
-    let value = c.as_bytes-bytes.ensures.value in
-    let before = c.loop-at.invariant.order in
-    let quote : get_or text at 0 ≡ 34 = ap (λ t. get_or t at 0) (sym value) ∙ c.if-byte-eq34.true in
-    let same : ReadsSame text (With (string_bytes c.loop-at.out) text c.loop-at.kept at) at false = subst (λ f. ReadsSame text (With (string_bytes c.loop-at.out) text c.loop-at.kept at) at f) c.if-after_word.false c.loop-at.invariant.same in
-    let out = string_bytes c.loop-at.out in
-    let new = string_bytes c.append_string.new.out in
+    let out = c.loop-at.out.items in
+    let new = c.append_string.new.out.items in
+    let before = c.loop-at.invariant in
+    let same = no_word text (With out text c.loop-at.kept at) at c.loop-at.after_word c.if-after_word.false before.same in
     let string : HasCompactString text (at + 1) (With out text c.loop-at.kept (at + 1)) (With new text c.in-Some.from c.in-Some.end) c.in-Some.end =
     subst (λ (r : Option (ℕ × ℕ)). IfSome r (λ ends. HasCompactString text (at + 1) (With out text c.loop-at.kept (at + 1)) (With new text ends.1 ends.0) ends.0)) c.in-Some.is c.in_ok-end.ensures.string in
     let bounds : (c.in-Some.from ≤ c.in-Some.end) × (at + 1 < c.in-Some.end) × (c.in-Some.end ≤ length text) =
     subst (λ (r : Option (ℕ × ℕ)). IfSome r (λ ends. (ends.1 ≤ ends.0) × (at + 1 < ends.0) × (ends.0 ≤ length text))) c.in-Some.is c.in_ok-end.ensures.bounds in
-    let boundary : IsCharBoundary text c.in-Some.from = subst (λ (r : Option (ℕ × ℕ)). IfSome r (λ ends. IsCharBoundary text ends.1)) c.in-Some.is c.in_ok-end.ensures.boundary in
-    let all = past_string text out (With new text c.in-Some.from c.in-Some.end) c.loop-at.kept at c.in-Some.end before quote same string in
+    let all = past_string text out (With new text c.in-Some.from c.in-Some.end) c.loop-at.kept at c.in-Some.end before.order c.if-byte-eq34.true same string in
     record {
       order = bounds.0;
       within = bounds.2;
-      boundary = boundary;
       same = subst (λ f. ReadsSame text (With new text c.in-Some.from c.in-Some.end) c.in-Some.end f) (sym c.if-after_word.false) all;
     }
 
@@ -71,24 +75,14 @@ loop-at-preserved c =
     let text = c.args.text.now in
     let at = c.loop-at.at in
     let end = c.in-Some-token_end.end in
-    let value = c.as_bytes-bytes.ensures.value in
-    let before = c.loop-at.invariant.order in
-    let same : ReadsSame text (With (string_bytes c.loop-at.out) text c.loop-at.kept at) at false = subst (λ f. ReadsSame text (With (string_bytes c.loop-at.out) text c.loop-at.kept at) at f) c.if-after_word.false c.loop-at.invariant.same in
+    let before = c.loop-at.invariant in
     let ensured = c.in-Some-token_end.ensures in
-    let within : end ≤ length text = omega (arith, ensured.bounds, ap length value) in
-    let above : at ≤ end = omega (arith, ensured.bounds) in
-    let word : HasWord text at end = subst (λ t. HasWord t at end) value ensured.word in
-    let ended : ends_word (drop end text) ≡ true = ap (λ t. ends_word (drop end t)) (sym value) ∙ ensured.ended in
+    let same = no_word text (With c.loop-at.out.items text c.loop-at.kept at) at c.loop-at.after_word c.if-after_word.false before.same in
     record {
-      order = omega (arith, before, above);
-      within = within;
-      boundary = c.loop-at.invariant.boundary;
-      same = past_word text (string_bytes c.loop-at.out) c.loop-at.kept at end before above within same word ended;
+      order = omega (arith, before.order, ensured.bounds);
+      within = ensured.bounds.1;
+      same = past_word text c.loop-at.out.items c.loop-at.kept at end before.order (omega (arith, ensured.bounds)) ensured.bounds.1 same ensured.word ensured.ended;
     }
 
 pub returns : goal.returns
-returns c =
-    let text = c.args.text.now in
-    let value = c.as_bytes-bytes.ensures.value in
-    λ done. same_tokens text (string_bytes c.loop-at.out) (string_bytes c.append-2.new.out) c.loop-at.kept c.loop-at.at c.loop-at.after_word (omega (arith, c.loop-at-test.false, ap length value)) c.loop-at.invariant.same
-    c.in_ok-append-2.ensures
+returns c = λ done. same_tokens c.args.text.now c.loop-at.out.items c.append-2.new.out.items c.loop-at.kept c.loop-at.at c.loop-at.after_word (omega (arith, c.loop-at-test.false)) c.loop-at.invariant.same c.in_ok-append-2.ensures

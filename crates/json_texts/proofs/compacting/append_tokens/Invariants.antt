@@ -1,5 +1,4 @@
-use Rattle.std.proofs.Common.{◌-◌, ◌≤◌, length, string_bytes}
-use Rattle.std.specs.Str.{IsCharBoundary}
+use Rattle.std.proofs.Common.{◌-◌, ◌≤◌, length}
 use Rattle.json_texts.proofs.Lexed.{With, ReadsSame}
 use Rattle.json_texts.proofs.compacting.append_tokens.Given as goal
 
@@ -7,9 +6,8 @@ abbrev pub invariant-loop-at : goal.invariant-loop-at
 invariant-loop-at l = record {
   order : l.kept ≤ l.at;
   within : l.at ≤ length l.text;
-  boundary : IsCharBoundary l.text l.kept;
-  same : ReadsSame l.text (With (string_bytes l.out) l.text l.kept l.at) l.at l.after_word;
+  same : ReadsSame l.text (With l.out.items l.text l.kept l.at) l.at l.after_word;
 }
 
 abbrev pub decreases-loop-at : goal.decreases-loop-at
-decreases-loop-at l = length l.bytes - l.at
+decreases-loop-at l = length l.text - l.at

@@ -2,6 +2,6 @@ use Rattle.std.proofs.Common.{arith}
 use Rattle.json.specs.Text.{code_unit}
 use Rattle.json_texts.proofs.compacting.four_digits.Goals as goal
 
-pub returns-then-a-b-clause-value : goal.returns-then-a-b-clause-value
+pub returns-then-a-b : goal.returns-then-a-b
 unfolding code_unit
-returns-then-a-b-clause-value c = rw (← c.digit-a.ensures.value, ← c.digit-b.ensures.value, ← c.digit-c.ensures.value, ← c.digit-d.ensures.value) (grind arith)
+returns-then-a-b c = rw (← c.digit-a.ensures, ← c.digit-b.ensures, ← c.digit-c.ensures, ← c.digit-d.ensures) (grind arith)

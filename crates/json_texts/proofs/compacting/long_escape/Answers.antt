@@ -17,5 +17,5 @@ returns-clause-escape c =
     let at = c.args.at in
     let unit = c.in_ok-unit.unit in
     subst (λ u. HasLongEscape text at u (at + 6)) (sym c.in_ok-character.ensures.value.1)
-    (digits_escape text at unit c.requires.backslash (omega (arith, c.byte_at-letter.ensures, c.if-letter-ne117.false)) (omega (arith, c.if-text-at-lt6.false)) c.in_ok-unit.ensures.value
+    (digits_escape text at unit c.requires.backslash (omega (arith, c.byte_at-letter.ensures, c.if-letter-ne117.false)) (omega (arith, c.if-text-at-lt6.false)) c.in_ok-unit.ensures
     (is_whole unit c.in_ok-character.ensures.cases) (omega (arith, c.if-unit-lt32.false)) c.if-unit-eq34.false c.if-unit-eq92.false)
