@@ -1,14 +1,15 @@
 -- The decimal of a number is read as that number, and no other text is.
-use Rattle.std.proofs.Common.{◌≡◌, ℕ, ◌<◌, ◌^◌, ◌&&◌, List, [], ◌∷◌, Bool, true, false, Option, Some, None, Result, Ok, decimal, refl, sym, ap, ◌∙◌, arith, if◌then◌else◌}
+use Rattle.std.proofs.Common.{◌≡◌, ◌≢◌, ℕ, zero, suc, ◌<◌, ◌^◌, ◌&&◌, List, [], ◌∷◌, length, get_or, Bool, true, false, Option, Some, None, Result, Ok, Err, decimal, refl, sym, ap, subst, ◌∙◌, arith, if◌then◌else◌, ◌⊎◌, inl, inr, length-drop}
 use Rattle.std.specs.Prelude.{nat_lt, ◌==◌}
-use Rattle.std.proofs.Common.{inl, inr}
-use Rattle.std.proofs.lemmas.Bool.{cases_Bool, eqb-true}
+use Rattle.std.specs.Result.{result_ok}
+use Rattle.std.proofs.lemmas.Bool.{cases_Bool, eqb-true, eqb-false}
 use Rattle.std.proofs.lemmas.Bool.Decides.{nat_tests}
-use Rattle.std.proofs.lemmas.Fmt.{decimal_is_IsNumeral, parse-decimal}
+use Rattle.std.proofs.lemmas.Fmt.{decimal_is_IsNumeral, parse-decimal, decimal-digits_value, first_decimal, decimal_digit}
 use Rattle.std.proofs.lemmas.Slice.Eq.{bytes_eq-Decides}
+use Rattle.std.proofs.lemmas.Str.Parse.{IsNumeralModel, numerals_by_value, tells_digits, parse_plain, parse_plus}
 use Rattle.std.specs.Str.{bytes_eq}
-use Rattle.std.specs.Str.Parse.{ParsesUnsigned, digits_value}
-use Rattle.connection_messages.specs.Numbers.{unsigned_of, negated, negative_of}
+use Rattle.std.specs.Str.Parse.{ParsesUnsigned, AllDigits, digits_value}
+use Rattle.connection_messages.specs.Numbers.{unsigned_of, has_lead, negated, negative_of}
 
 pub below_is_true : (m n : ℕ) → m < n → nat_lt m n ≡ true
 below_is_true m n h = grind (arith, nat_tests)
@@ -40,10 +41,49 @@ unsigned_of-none s other = by_result _ refl
     by_result None read = read
     by_result (Some n) read = absurd (other n (unsigned_of-is n s read).0 (unsigned_of-is n s read).1)
 
--- where `parse` reads no number that the text is the decimal of
-pub unsigned_of-unread : {E : Type 0} (s : List ℕ) (r : Result ℕ E) → ParsesUnsigned 64 10 s r
-    → ((n : ℕ) → r ≡ Ok n → s ≡ decimal n → ⊥) → unsigned_of s ≡ None
-unsigned_of-unread s r parses other = unsigned_of-none s (λ n is small. other n (parse-decimal 64 n s r small small is parses) is)
+-- ---- leads
+
+abbrev Lead : List ℕ → Type 0
+Lead s = (1 < length s) × ((get_or s 0 0 ≡ 48) ⊎ (get_or s 0 0 ≡ 43))
+
+lead_of : (s : List ℕ) → has_lead s ≡ true → Lead s
+lead_of s is = grind (arith, nat_tests)
+
+has_lead-is : (s : List ℕ) → has_lead s ≡ false → 1 < length s → (get_or s 0 0 ≢ 48) × (get_or s 0 0 ≢ 43)
+has_lead-is s is more = grind (arith, nat_tests)
+
+-- no decimal has a lead
+lead_of_decimal : (n : ℕ) → n < 2 ^ 64 → Lead (decimal n) → ⊥
+lead_of_decimal zero small lead = let one : length (decimal 0) ≡ 1 = ap length (decimal_digit 0 (omega arith)) in omega (arith, lead.0, one)
+lead_of_decimal (suc n) small lead =
+    let first : 48 < get_or (decimal (suc n)) 0 0 = first_decimal (suc n) (omega arith) small in
+    elim lead.1 [
+      | inl zero_first ↦ omega (arith, first, zero_first)
+      | inr plus_first ↦ omega (arith, first, plus_first)
+    ]
+
+pub unsigned_of-lead : (s : List ℕ) → has_lead s ≡ true → unsigned_of s ≡ None
+unsigned_of-lead s is = unsigned_of-none s (λ n same small. lead_of_decimal n small (subst Lead same (lead_of s is)))
+
+-- a text without a lead is read by `parse`
+pub unsigned_of-parse : {E : Type 0} (s : List ℕ) (r : Result ℕ E) → ParsesUnsigned 64 10 s r → has_lead s ≡ false → result_ok r ≡ unsigned_of s
+unsigned_of-parse s (Err e) parses none = sym (unsigned_of-none s (λ n is small. let read : Err e ≡ Ok n = parse-decimal 64 n s (Err e) small small is parses in cc))
+unsigned_of-parse {E = E} s (Ok n) parses none =
+    elim (cases_Bool (get_or s 0 0 == 43)) [
+      | inl plus ↦
+          let read = parse_plus own {E = E} 64 s (Ok n) parses (eqb-true (get_or s 0 0) 43 plus) in
+          absurd ((has_lead-is s none (omega (arith, length-drop 1 s, read.0.1))).1 (eqb-true (get_or s 0 0) 43 plus))
+      | inr none_first ↦
+          let read = parse_plain own {E = E} 64 s (Ok n) parses (eqb-false (get_or s 0 0) 43 none_first) in
+          let written : decimal (digits_value 10 s) ≡ s = decimal-digits_value own s read.0.0 read.0.1 (single s none read.0.1) read.0.2 in
+          ap Some read.1 ∙ sym (unsigned_of-decimal (digits_value 10 s) read.0.2) ∙ ap unsigned_of written
+    ]
+  where
+    own : IsNumeralModel (AllDigits 10) (digits_value 10)
+    own = numerals_by_value _ tells_digits
+
+    single : (t : List ℕ) → has_lead t ≡ false → 0 < length t → get_or t 0 0 ≡ 48 → length t ≡ 1
+    single t is some first = grind (arith, nat_tests)
 
 -- a text without a minus is no number below 0
 pub negative_of-none : (s : List ℕ) → ((rest : List ℕ) → s ≡ 45 ∷ rest → ⊥) → None ≡ negative_of s

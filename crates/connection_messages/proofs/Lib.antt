@@ -9,5 +9,6 @@ pub mod Lines
 pub mod Members
 pub mod Noted
 pub mod OneLine
+pub mod Quoted
 pub mod SaidBack
 pub mod Whole

@@ -1,12 +1,15 @@
 -- The members of a compact object, noted as they pass.
-use Rattle.std.proofs.Common.{◌≡◌, ℕ, ◌+◌, ◌-◌, ◌≤◌, List, [], ◌∷◌, ◌++◌, length, take, drop, get_or, Bool, true, false, cond, Option, Some, None, option_map, if◌then◌else◌, Bor, refl, sym, ap, ◌∙◌, subst, arith, suc, append_assoc, length-append, length-drop, drop-drop, take_at}
+use Rattle.std.proofs.Common.{◌≡◌, ℕ, ◌+◌, ◌-◌, ◌<◌, ◌≤◌, List, [], ◌∷◌, ◌++◌, length, take, drop, get_or, Bool, true, false, cond, Option, Some, None, option_map, if◌then◌else◌, Bor, refl, sym, ap, ◌∙◌, subst, arith, suc, append_assoc, length-append, length-drop, drop-drop, get_or-drop}
 use Rattle.std.specs.Prelude.{codes}
 use Rattle.std.specs.Str.{bytes_eq, IsUtf8, is_utf8}
 use Rattle.std.proofs.lemmas.Str.{is_utf8-from_IsUtf8}
-use Rattle.std.proofs.lemmas.Slice.Eq.{bytes_eq-Decides}
+use Rattle.std.proofs.lemmas.Bool.Decides.{Decides-eqb}
+use Rattle.std.proofs.lemmas.Slice.Eq.{bytes_eq-Decides, starts_is}
+use Rattle.std.proofs.Math.Seq.{get_or-append_seam}
+use Rattle.std.proofs.lemmas.List.{take_all}
 use Rattle.json.specs.Find.{get_member, later_or}
 use Rattle.json.specs.Json.{Json, array, object, Items, item, no_items, Members, member, no_members}
-use Rattle.json.specs.Print.{escape, escape_byte}
+use Rattle.json.specs.Print.{escape, quoted, escape_byte}
 use Rattle.json.specs.Text.{content, plain}
 use Rattle.json.proofs.Printed.Strings.{content-escape}
 use Rattle.json_texts.specs.Texts.{json_text, value_of}
@@ -14,11 +17,14 @@ use Rattle.json_texts.specs.Standing.{Stands, HasName, HasValue}
 use Rattle.json_texts.proofs.Placed.{MembersStand, stand_more, stand_last, ItemsStand, stand_more_items, stand_last_item, object_stands, array_text, value_text}
 use Rattle.json_texts.proofs.ReadBack.{value_of-json_text}
 use Rattle.connection_messages.specs.Envelope.{IsMember, HasEnvelope, HasEnvelopeAt, HasBatch}
+use Rattle.connection_messages.specs.Named.{begins, first_of_names, member_of, member_named, name_len, with_part}
 use Rattle.connection_messages.specs.Reading.{entry_of, entries_of}
 use Rattle.connection_messages.specs.declared.entry.Entry.{Entry}
 use Rattle.json.specs.Tree.{depth, HasNumbers}
 use Rattle.connection_messages.specs.declared.read.unit.TheConstants.{MOST_DEPTH_IN}
 use Rattle.connection_messages.specs.declared.read.envelope.Envelope.{Envelope}
+use Rattle.connection_messages.specs.declared.read.envelope.Member.{Member}
+use Rattle.connection_messages.specs.declared.read.envelope.Member.TheVariants.{Version, Id, Method, Params, Result, Error, Request}
 use Rattle.connection_messages.specs.declared.rules.Rules.{Rules}
 
 -- each slot has the text that was noted for its name
@@ -76,64 +82,144 @@ last_behind levels text from at mid end note n v is behind =
 
 -- ---- names and parts
 
-escape-same : (s t : List ℕ) → escape s ≡ escape t → s ≡ t
-escape-same s t same =
-    let both : Some s ≡ Some t = sym (content-escape s []) ∙ ap (λ l. content plain (l ++ 34 ∷ [])) same ∙ content-escape t [] in
-    cc
-
 same_truths : (a b : Bool) → (a ≡ true → b ≡ true) → (b ≡ true → a ≡ true) → a ≡ b
 same_truths true b f g = sym (f refl)
 same_truths false true f g = g refl
 same_truths false false f g = refl
 
-pub names_same : (name word : List ℕ) → escape word ≡ word → bytes_eq (escape name) word ≡ bytes_eq name word
-names_same name word is =
-    same_truths _ _ (λ e. (bytes_eq-Decides name word).1 (escape-same name word ((bytes_eq-Decides (escape name) word).0 e ∙ sym is)))
-    (λ e. (bytes_eq-Decides (escape name) word).1 (ap escape ((bytes_eq-Decides name word).0 e) ∙ is))
-
--- a slot of one name
-slot_noted : (old new : Option (Bor (List ℕ))) (note : List ℕ → Option Json) (name slice word part : List ℕ) (j : Json) → escape word ≡ word → slice ≡ escape name → json_text j ≡ part → IsMember old (note word)
-    → option_map (λ s. s.now) new ≡ (if bytes_eq slice word then Some part else option_map (λ s. s.now) old) → IsMember new (with_member note name j word)
-slot_noted old new note name slice word part j is same text before put =
-    put ∙ ap (λ b. if b then Some part else option_map (λ s. s.now) old) (ap (λ t. bytes_eq t word) same ∙ names_same name word is) ∙ by_name (bytes_eq name word)
+pub too_short : (text word : List ℕ) → length text < length word → false ≡ begins text word
+too_short text word short = by_test (begins text word) refl
   where
-    by_name : (b : Bool) → (if b then Some part else option_map (λ s. s.now) old) ≡ option_map json_text (cond b (Some j) (note word))
-    by_name true = ap Some (sym text)
-    by_name false = before
+    by_test : (b : Bool) → begins text word ≡ b → false ≡ b
+    by_test false is = refl
+    by_test true is =
+        let whole : length text ≡ length word + length (drop (length word) text) =
+        ap length ((starts_is Decides-eqb text word (begins text word) refl).0 is) ∙ length-append word (drop (length word) text) in
+        absurd (omega (arith, short, whole))
 
-abbrev Puts : Option (Bor (List ℕ)) → Option (Bor (List ℕ)) → List ℕ → List ℕ → List ℕ → Type 0
-Puts old new slice part word = option_map (λ s. s.now) new ≡ (if bytes_eq slice word then Some part else option_map (λ s. s.now) old)
+-- what begins with a name and its quotes and the colon behind it, is a member of that name
+begins_same : (text name word quoted_word rest : List ℕ) → text ≡ (quoted name ++ 58 ∷ []) ++ rest → quoted_word ≡ quoted word ++ 58 ∷ [] → begins text quoted_word ≡ bytes_eq name word
+begins_same text name word quoted_word rest stands is =
+    let start = starts_is Decides-eqb text quoted_word (begins text quoted_word) refl in
+    let name_text : text ≡ 34 ∷ (escape name ++ 34 ∷ 58 ∷ rest) = stands ∙ quoted_text name rest in
+    same_truths _ _
+    (λ t.
+    let word_text : text ≡ 34 ∷ (escape word ++ 34 ∷ 58 ∷ drop (length quoted_word) text) = start.0 t ∙ ap (λ l. l ++ drop (length quoted_word) text) is ∙ quoted_text word (drop (length quoted_word) text) in
+    let both : Some name ≡ Some word =
+    sym (content-escape name (58 ∷ rest)) ∙ ap (λ l. content plain (drop 1 l)) (sym name_text ∙ word_text) ∙ content-escape word (58 ∷ drop (length quoted_word) text) in
+    let same : name ≡ word = cc in
+    (bytes_eq-Decides name word).1 same)
+    (λ t. start.1 rest (stands ∙ ap (λ w. (quoted w ++ 58 ∷ []) ++ rest) ((bytes_eq-Decides name word).0 t) ∙ ap (λ l. l ++ rest) (sym is)))
+  where
+    quoted_text : (s r : List ℕ) → (quoted s ++ 58 ∷ []) ++ r ≡ 34 ∷ (escape s ++ 34 ∷ 58 ∷ r)
+    quoted_text s r = ap (λ l. 34 ∷ l) (append_assoc (escape s ++ 34 ∷ []) (58 ∷ []) r ∙ append_assoc (escape s) (34 ∷ []) (58 ∷ r))
 
-plain_words : (escape (codes "jsonrpc") ≡ codes "jsonrpc") × (escape (codes "id") ≡ codes "id") × (escape (codes "method") ≡ codes "method") × (escape (codes "params") ≡ codes "params")
-    × (escape (codes "result") ≡ codes "result") × (escape (codes "error") ≡ codes "error") × (escape (codes "requestId") ≡ codes "requestId")
+quoted_names : (codes "\"jsonrpc\":" ≡ quoted (codes "jsonrpc") ++ 58 ∷ []) × (codes "\"id\":" ≡ quoted (codes "id") ++ 58 ∷ []) × (codes "\"method\":" ≡ quoted (codes "method") ++ 58 ∷ [])
+    × (codes "\"params\":" ≡ quoted (codes "params") ++ 58 ∷ []) × (codes "\"result\":" ≡ quoted (codes "result") ++ 58 ∷ []) × (codes "\"error\":" ≡ quoted (codes "error") ++ 58 ∷ [])
+    × (codes "\"requestId\":" ≡ quoted (codes "requestId") ++ 58 ∷ [])
 unfolding escape_byte
-plain_words = (refl, refl, refl, refl, refl, refl, refl)
+quoted_names = (refl, refl, refl, refl, refl, refl, refl)
 
-pub all_noted : (old new : Envelope) (note : List ℕ → Option Json) (name slice part : List ℕ) (j : Json) → slice ≡ escape name → json_text j ≡ part → AreNoted old note
-    → Puts old.version new.version slice part (codes "jsonrpc") → Puts old.id new.id slice part (codes "id") → Puts old.method new.method slice part (codes "method")
-    → Puts old.params new.params slice part (codes "params") → Puts old.result new.result slice part (codes "result") → Puts old.error new.error slice part (codes "error")
-    → Puts old.request new.request slice part (codes "requestId")
-    → AreNoted new (with_member note name j)
-all_noted old new note name slice part j same text before version id method params result error request = record {
-  version = slot_noted old.version new.version note name slice (codes "jsonrpc") part j plain_words.0 same text before.version version;
-  id = slot_noted old.id new.id note name slice (codes "id") part j plain_words.1 same text before.id id;
-  method = slot_noted old.method new.method note name slice (codes "method") part j plain_words.2 same text before.method method;
-  params = slot_noted old.params new.params note name slice (codes "params") part j plain_words.3 same text before.params params;
-  result = slot_noted old.result new.result note name slice (codes "result") part j plain_words.4 same text before.result result;
-  error = slot_noted old.error new.error note name slice (codes "error") part j plain_words.5 same text before.error error;
-  request = slot_noted old.request new.request note name slice (codes "requestId") part j plain_words.6 same text before.request request;
-}
+-- the member that a text begins with is that of the name that stands there
+pub member_same : (text : List ℕ) (at from : ℕ) (n : HasName text at from) → member_of (drop at text) ≡ member_named n.name
+member_same text at from n =
+    let same : (word quoted_word : List ℕ) → quoted_word ≡ quoted word ++ 58 ∷ [] → begins (drop at text) quoted_word ≡ bytes_eq n.name word =
+    λ word quoted_word is. begins_same (drop at text) n.name word quoted_word (drop from text) n.stands is in
+    let version = same (codes "jsonrpc") (codes "\"jsonrpc\":") quoted_names.0 in
+    let id = same (codes "id") (codes "\"id\":") quoted_names.1 in
+    let method = same (codes "method") (codes "\"method\":") quoted_names.2 in
+    let params = same (codes "params") (codes "\"params\":") quoted_names.3 in
+    let result = same (codes "result") (codes "\"result\":") quoted_names.4 in
+    let error = same (codes "error") (codes "\"error\":") quoted_names.5 in
+    let request = same (codes "requestId") (codes "\"requestId\":") quoted_names.6 in
+    λ i. first_of_names (version i) (id i) (method i) (params i) (result i) (error i) (request i)
 
--- the bytes of a name between its quotes
-pub name_part : (text : List ℕ) (at from : ℕ) (n : HasName text at from) → at + 3 ≤ from → from ≤ length text → take (from - 2 - (at + 1)) (drop (at + 1) text) ≡ escape n.name
-name_part text at from n below within =
-    let e = escape n.name in
+-- a choice, by its cases
+chosen : (P : Member → Type 0) (b : Bool) (m rest : Member) → (b ≡ true → P m) → (b ≡ false → P rest) → P (if b then m else rest)
+chosen P true m rest f g = f refl
+chosen P false m rest f g = g refl
+
+-- a known name stands where the text begins with it
+abbrev KnownName : List ℕ → ℕ → Member → Type 0
+KnownName text at m = (len : ℕ) → name_len m ≡ Some len → HasName text at (at + len)
+
+known : (text : List ℕ) (at len : ℕ) (m : Member) (name quoted_name : List ℕ) → quoted_name ≡ quoted name ++ 58 ∷ [] → length quoted_name ≡ len → name_len m ≡ Some len
+    → begins (drop at text) quoted_name ≡ true → KnownName text at m
+known text at len m name quoted_name is size here found some asked =
+    let same : some ≡ len = (let both : Some some ≡ Some len = sym asked ∙ here in cc) in
+    let stands : drop at text ≡ quoted_name ++ drop (length quoted_name) (drop at text) = (starts_is Decides-eqb (drop at text) quoted_name (begins (drop at text) quoted_name) refl).0 found in
+    let rest : drop (length quoted_name) (drop at text) ≡ drop (at + some) text = drop-drop (length quoted_name) at text ∙ ap (λ n. drop n text) (omega (arith, same, size)) in
+    record { name = name; stands = stands ∙ ap (λ l. quoted_name ++ l) rest ∙ ap (λ l. l ++ drop (at + some) text) is }
+
+pub known_name : (text : List ℕ) (at : ℕ) → KnownName text at (member_of (drop at text))
+known_name text at =
+    let P : Member → Type 0 = KnownName text at in
+    chosen P _ _ _ (known text at 10 Version (codes "jsonrpc") (codes "\"jsonrpc\":") quoted_names.0 refl refl) (λ _.
+    chosen P _ _ _ (known text at 5 Id (codes "id") (codes "\"id\":") quoted_names.1 refl refl) (λ _.
+    chosen P _ _ _ (known text at 9 Method (codes "method") (codes "\"method\":") quoted_names.2 refl refl) (λ _.
+    chosen P _ _ _ (known text at 9 Params (codes "params") (codes "\"params\":") quoted_names.3 refl refl) (λ _.
+    chosen P _ _ _ (known text at 9 Result (codes "result") (codes "\"result\":") quoted_names.4 refl refl) (λ _.
+    chosen P _ _ _ (known text at 8 Error (codes "error") (codes "\"error\":") quoted_names.5 refl refl) (λ _.
+    chosen P _ _ _ (known text at 12 Request (codes "requestId") (codes "\"requestId\":") quoted_names.6 refl refl) (λ _ len none. let no : None ≡ Some len = none in cc)))))))
+
+pub whole_rest : (text : List ℕ) (at : ℕ) → take (length text - at) (drop at text) ≡ drop at text
+whole_rest text at = take_all (length text - at) (drop at text) (omega (arith, length-drop at text))
+
+-- the colon ends a name
+pub name_colon : (text : List ℕ) (at from : ℕ) (n : HasName text at from) → at + 3 ≤ from → from ≤ length text → get_or text (from - 1) 0 ≡ 58
+name_colon text at from n below within =
+    let q = quoted n.name in
     let rest = drop from text in
-    let behind : drop (at + 1) text ≡ e ++ (34 ∷ 58 ∷ rest) =
-    sym (drop-drop 1 at text) ∙ ap (drop 1) n.stands ∙ append_assoc (e ++ 34 ∷ []) (58 ∷ []) rest ∙ append_assoc e (34 ∷ []) (58 ∷ rest) in
-    let whole : length text - (at + 1) ≡ length e + suc (suc (length rest)) = sym (length-drop (at + 1) text) ∙ ap length behind ∙ length-append e (34 ∷ 58 ∷ rest) in
+    let behind : drop at text ≡ q ++ 58 ∷ rest = n.stands ∙ append_assoc q (58 ∷ []) rest in
+    let whole : length text - at ≡ length q + suc (length rest) = sym (length-drop at text) ∙ ap length behind ∙ length-append q (58 ∷ rest) in
     let tail : length rest ≡ length text - from = length-drop from text in
-    ap (take (from - 2 - (at + 1))) behind ∙ take_at e (34 ∷ 58 ∷ rest) (from - 2 - (at + 1)) (omega (arith, whole, tail))
+    let place : from - 1 ≡ at + length q = omega (arith, whole, tail, below, within) in
+    ap (λ i. get_or text i 0) place ∙ sym (get_or-drop at text (length q) 0) ∙ ap (λ l. get_or l (length q) 0) behind ∙ get_or-append_seam q 58 rest 0
+
+-- ---- parts
+
+-- a slot of another name
+slot_kept : (old : Option (Bor (List ℕ))) (note : List ℕ → Option Json) (name word : List ℕ) (j : Json) → bytes_eq name word ≡ false → IsMember old (note word) → IsMember old (with_member note name j word)
+slot_kept old note name word j other before = before ∙ ap (λ b. option_map json_text (cond b (Some j) (note word))) (sym other)
+
+-- and of one
+noted_one : (e : Envelope) (note : List ℕ → Option Json) (m : Member) (name word : List ℕ) (part : Bor (List ℕ)) (j : Json)
+    → AreNoted (with_part m part e) (with_member note word j) → bytes_eq name word ≡ true → AreNoted (with_part m part e) (with_member note name j)
+noted_one e note m name word part j noted same = subst (λ n. AreNoted (with_part m part e) (with_member note n j)) (sym ((bytes_eq-Decides name word).0 same)) noted
+
+all_noted : (e : Envelope) (note : List ℕ → Option Json) (name : List ℕ) (part : Bor (List ℕ)) (j : Json) → json_text j ≡ part.now → AreNoted e note
+    → AreNoted (with_part (member_named name) part e) (with_member note name j)
+all_noted e note name part j text before =
+    let P : Member → Type 0 = λ m. AreNoted (with_part m part e) (with_member note name j) in
+    let is : Some part.now ≡ Some (json_text j) = ap Some (sym text) in
+    chosen P _ _ _ (noted_one e note Version name (codes "jsonrpc") part j
+    (record { version = is; id = before.id; method = before.method; params = before.params; result = before.result; error = before.error; request = before.request })) (λ version.
+    chosen P _ _ _ (noted_one e note Id name (codes "id") part j
+    (record { version = before.version; id = is; method = before.method; params = before.params; result = before.result; error = before.error; request = before.request })) (λ id.
+    chosen P _ _ _ (noted_one e note Method name (codes "method") part j
+    (record { version = before.version; id = before.id; method = is; params = before.params; result = before.result; error = before.error; request = before.request })) (λ method.
+    chosen P _ _ _ (noted_one e note Params name (codes "params") part j
+    (record { version = before.version; id = before.id; method = before.method; params = is; result = before.result; error = before.error; request = before.request })) (λ params.
+    chosen P _ _ _ (noted_one e note Result name (codes "result") part j
+    (record { version = before.version; id = before.id; method = before.method; params = before.params; result = is; error = before.error; request = before.request })) (λ result.
+    chosen P _ _ _ (noted_one e note Error name (codes "error") part j
+    (record { version = before.version; id = before.id; method = before.method; params = before.params; result = before.result; error = is; request = before.request })) (λ error.
+    chosen P _ _ _ (noted_one e note Request name (codes "requestId") part j
+    (record { version = before.version; id = before.id; method = before.method; params = before.params; result = before.result; error = before.error; request = is })) (λ request.
+    record {
+      version = slot_kept e.version note name (codes "jsonrpc") j version before.version;
+      id = slot_kept e.id note name (codes "id") j id before.id;
+      method = slot_kept e.method note name (codes "method") j method before.method;
+      params = slot_kept e.params note name (codes "params") j params before.params;
+      result = slot_kept e.result note name (codes "result") j result before.result;
+      error = slot_kept e.error note name (codes "error") j error before.error;
+      request = slot_kept e.request note name (codes "requestId") j request before.request;
+    })))))))
+
+pub noted_as : (old new : Envelope) (note : List ℕ → Option Json) (m : Member) (name : List ℕ) (part : Bor (List ℕ)) (j : Json) → m ≡ member_named name → json_text j ≡ part.now
+    → AreNoted old note → new ≡ with_part m part old → AreNoted new (with_member note name j)
+noted_as old new note m name part j is text before put =
+    subst (λ e. AreNoted e (with_member note name j)) (ap (λ m. with_part m part old) (sym is) ∙ sym put) (all_noted old note name part j text before)
 
 -- ---- a whole object
 

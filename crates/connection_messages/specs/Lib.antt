@@ -1,4 +1,5 @@
 pub mod Envelope
+pub mod Named
 pub mod Numbers
 pub mod Params
 pub mod ReadBack

@@ -1,11 +1,15 @@
 -- Whole numbers of JSON, by their texts.
-use Rattle.std.specs.Prelude.{ℕ, ◌-◌, ◌^◌, ◌&&◌, ◌==◌, nat_lt, nat_le, List, [], ◌∷◌, Option, Some, None, if◌then◌else◌, decimal, ℤ, pos, negsuc}
+use Rattle.std.specs.Prelude.{ℕ, ◌-◌, ◌^◌, ◌&&◌, ◌||◌, ◌==◌, nat_lt, nat_le, List, [], ◌∷◌, length, get_or, Bool, Option, Some, None, if◌then◌else◌, decimal, ℤ, pos, negsuc}
 use Rattle.std.specs.Str.{bytes_eq}
 use Rattle.std.specs.Str.Parse.{digits_value}
 
 -- the number below 2^64 that the text is the decimal of
 abbrev pub unsigned_of : List ℕ → Option ℕ
 unsigned_of s = if nat_lt (digits_value 10 s) (2 ^ 64) && bytes_eq (decimal (digits_value 10 s)) s then Some (digits_value 10 s) else None
+
+-- a 0 or a plus stands before more bytes
+abbrev pub has_lead : List ℕ → Bool
+has_lead s = nat_lt 1 (length s) && (get_or s 0 0 == 48 || get_or s 0 0 == 43)
 
 -- the number of i64 below 0 of which this is the decimal without its minus; `negsuc n` is the number -(n + 1)
 abbrev pub negated : Option ℕ → Option ℤ

@@ -29,5 +29,7 @@ pub use params::OutgoingParams;
 pub use read::unit::{MOST_DEPTH_IN, UnitReader, limit_of_depth_in_figures};
 pub use reply::{Reply, ReplyError};
 pub use rules::Rules;
-pub use texts::{write_answer, write_call, write_calls, write_notice, write_withdrawal};
+pub use texts::{
+    write_answer, write_call, write_calls, write_notice, write_result, write_withdrawal,
+};
 pub use unit::Unit;

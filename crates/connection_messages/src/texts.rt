@@ -2,6 +2,7 @@
 //! bytes are as before.
 
 ghost use Rattle.std.specs.Prelude.{◌≡◌, ◌++◌, ◌+◌, ◌^◌, ◌<◌, OnOk, OnErr, length, option_copied};
+ghost use Rattle.connection_messages.specs.declared.answer.Answer.TheVariants.{Result};
 ghost use Rattle.connection_messages.specs.declared.answer.AnswerError.{AnswerError};
 ghost use Rattle.connection_messages.specs.Texts.{error_answer_text, answer_text, call_text, calls_text, notice_text, withdrawal_text};
 
@@ -15,6 +16,20 @@ use message_ids::Id;
 use message_texts::CallKey;
 use std::alloc::{AllocError, Global};
 
+/// Writes the text of a response with this result.
+pub fn write_result(
+    alloc: Global,
+    bytes: &mut Vec<u8>,
+    id: &Id,
+    text: &str,
+) -> Result<(), AllocError>
+    ensures text { OnOk result (bytes.new.items ≡
+        bytes.old.items ++ answer_text id.now (Result text.now)) }
+    ensures err { OnErr result (bytes.new.items ≡ bytes.old.items) }
+{
+    message_texts::write_result(alloc, bytes, id, text.as_bytes())
+}
+
 /// Writes the text of a response.
 pub fn write_answer(
     alloc: Global,
@@ -27,7 +42,7 @@ pub fn write_answer(
     ensures err { OnErr result (bytes.new.items ≡ bytes.old.items) }
 {
     match answer {
-        Answer::Result(text) => message_texts::write_result(alloc, bytes, id, text.as_bytes()),
+        Answer::Result(text) => write_result(alloc, bytes, id, text.as_str()),
         Answer::Error(error) => write_error_answer(alloc, bytes, id, error),
         Answer::Standard(standard) => {
             message_texts::write_fixed_error(alloc, bytes, id, *standard)

@@ -2,7 +2,7 @@
 //! to a reader of tokens.
 
 ghost use Rattle.std.specs.Prelude.{◌≡◌, IfOk, IfSome, IsTrue, false};
-ghost use Rattle.json.specs.Print.{quoted, escape};
+ghost use Rattle.json.specs.Print.{quoted};
 ghost use Rattle.connection_messages.specs.Envelope.{HasBatch, cancels_by, GivesId, GivesParams, GivesVersion, GivesCall, GivesEntry, GivesReply, GivesCancel, GivesTarget};
 ghost use Rattle.connection_messages.specs.Params.{is_structured};
 ghost use Rattle.connection_messages.specs.Reading.{unit_of};
@@ -10,7 +10,7 @@ ghost use Rattle.connection_messages.specs.declared.rules.Rules.{Rules};
 
 use super::batch::{batch_within, has_too_many};
 use super::call::read_null_params;
-use super::envelope::{Envelope, envelope_at, envelope_of};
+use super::envelope::Envelope;
 use super::number::unsigned;
 use super::unit::MOST_DEPTH_IN;
 use crate::call::Call;
@@ -55,9 +55,10 @@ pub(crate) fn read_compacted(
 fn read_single(alloc: Global, rules: Rules, text: &str) -> Result<Option<Unit>, AllocError>
     ensures { IfOk result (λ u. IfSome u (λ unit. unit ≡ unit_of rules false text.now)) }
 {
-    let Some(envelope) = envelope_of(text) else {
+    let mut envelope = Envelope::new();
+    if !envelope.note_whole(text) {
         return Ok(None);
-    };
+    }
     match read_envelope(alloc, rules, &envelope)? {
         Some(entry) => Ok(Some(Unit::Single(entry))),
         None => Ok(None),
@@ -86,7 +87,8 @@ fn read_entries(alloc: Global, rules: Rules, text: &str) -> Result<Option<Vec<En
     let mut entries = Vec::new(alloc);
     let mut at = 1;
     while at < bytes.len() {
-        let Some((envelope, end)) = envelope_at(text, at, MOST_DEPTH_IN - 2) else {
+        let mut envelope = Envelope::new();
+        let Some(end) = envelope.note_object(text, at, MOST_DEPTH_IN - 2) else {
             drop(entries);
             return Ok(None);
         };
@@ -113,6 +115,9 @@ fn read_entries(alloc: Global, rules: Rules, text: &str) -> Result<Option<Vec<En
     Ok(None)
 }
 
+/// The entry that an envelope is of. Inlined, so that an entry, which is of 100 bytes and more, is made where its unit or its
+/// batch has it.
+#[inline(always)]
 fn read_envelope(
     alloc: Global,
     rules: Rules,
@@ -168,7 +173,8 @@ fn read_cancel(
 fn read_target(alloc: Global, by: Cancels, params: &str) -> Result<Option<Id>, AllocError>
     ensures { IfOk result (λ t. IfSome t (λ target. GivesTarget by params.now target)) }
 {
-    let Some((members, end)) = envelope_at(params, 0, MOST_DEPTH_IN - 1) else {
+    let mut members = Envelope::new();
+    let Some(end) = members.note_object(params, 0, MOST_DEPTH_IN - 1) else {
         return Ok(None);
     };
     if end != params.len() {
@@ -278,16 +284,17 @@ fn read_result(alloc: Global, envelope: &Envelope<'_>) -> Result<Option<Entry>, 
     Ok(Some(Entry::Reply { key, reply }))
 }
 
-/// The text of a string that has no escape.
+/// The text of a string that has no escape. Its bytes are looked at once, by the search that the last quote stops.
 fn plain(part: &str) -> Option<&str>
     ensures { IfSome result (λ text. part.now ≡ quoted text.now) }
 {
-    let text = part.strip_prefix('"')?.strip_suffix('"')?;
-    if is_plain(text) { Some(text) } else { None }
-}
-
-fn is_plain(text: &str) -> bool
-    ensures { IsTrue result → escape text.now ≡ text.now }
-{
-    plain_end(text.as_bytes(), 0) == text.len()
+    let bytes = part.as_bytes();
+    if bytes.len() < 2 || bytes[0] != b'"' {
+        return None;
+    }
+    let last = bytes.len() - 1;
+    if bytes[last] != b'"' || plain_end(bytes, 1) != last {
+        return None;
+    }
+    Some(&part[1..last])
 }

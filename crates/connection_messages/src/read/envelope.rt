@@ -1,8 +1,8 @@
 //! The members of a compact object that tell what it is.
 
-ghost use Rattle.std.specs.Prelude.{◌≡◌, ◌<◌, ◌≤◌, length, IfSome, Some, if◌then◌else◌, codes, option_map};
-ghost use Rattle.std.specs.Str.{bytes_eq};
+ghost use Rattle.std.specs.Prelude.{◌≡◌, ◌<◌, ◌≤◌, ◌+◌, ◌-◌, get_or, length, IfSome, IsTrue};
 ghost use Rattle.connection_messages.specs.Envelope.{HasEnvelope, HasEnvelopeAt, target_part};
+ghost use Rattle.connection_messages.specs.Named.{HasMember, begins, member_of, name_len, no_parts, with_part};
 
 use super::unit::MOST_DEPTH_IN;
 use crate::cancels::Cancels;
@@ -10,7 +10,7 @@ use json_texts::{name_end, value_end};
 
 /// The texts of the members that tell what an object is, and of those by which the params of a cancel name a request. Of
 /// members that stand twice it has the last.
-#[derive(Clone, Copy, Drop)]
+#[derive(Drop)]
 pub(crate) struct Envelope<'a> {
     pub(crate) version: Option<&'a str>,
     pub(crate) id: Option<&'a str>,
@@ -21,80 +21,81 @@ pub(crate) struct Envelope<'a> {
     pub(crate) request: Option<&'a str>,
 }
 
-/// The envelope of a text that is a compact object. There is none where it isn't seen to be one.
-pub(crate) fn envelope_of(text: &str) -> Option<Envelope<'_>>
-    ensures { IfSome result (λ envelope. HasEnvelope text.now envelope) }
-{
-    let (envelope, end) = envelope_at(text, 0, MOST_DEPTH_IN - 1)?;
-    if end == text.len() {
-        Some(envelope)
-    } else {
+impl<'a> Envelope<'a> {
+    /// The envelope of an object without members. Members are noted in place, since it is too large to be handed on.
+    pub(crate) fn new() -> Envelope<'a>
+        ensures { result ≡ no_parts }
+    {
+        Envelope {
+            version: None,
+            id: None,
+            method: None,
+            params: None,
+            result: None,
+            error: None,
+            request: None,
+        }
+    }
+
+    /// Notes the members of a text that is a compact object, and tells whether it is seen to be one.
+    pub(crate) fn note_whole(&mut self, text: &'a str) -> bool
+        requires { self.old ≡ no_parts }
+        ensures { IsTrue result → HasEnvelope text.now self.new }
+    {
+        match self.note_object(text, 0, MOST_DEPTH_IN - 1) {
+            Some(end) => end == text.len(),
+            None => false,
+        }
+    }
+
+    /// Notes the members of the compact object that begins there, which nest at most `levels` deep. Its end.
+    pub(crate) fn note_object(
+        &mut self,
+        text: &'a str,
+        start: usize,
+        levels: usize,
+    ) -> Option<usize>
+        requires { self.old ≡ no_parts }
+        ensures envelope { IfSome result (λ end. HasEnvelopeAt levels text.now start end self.new) }
+        ensures bounds { IfSome result (λ end. (start < end) × (end ≤ length text.now)) }
+    {
+        let bytes = text.as_bytes();
+        if start >= bytes.len() || bytes[start] != b'{' {
+            return None;
+        }
+        let mut at = start + 1;
+        while at < bytes.len() {
+            let (member, from) = name_at(bytes, at)?;
+            let end = value_end(bytes, from, levels)?;
+            if end == bytes.len() {
+                return None;
+            }
+            let next = bytes[end];
+            if next != b',' && next != b'}' {
+                return None;
+            }
+            self.note(member, &text[from..end]);
+            at = end + 1;
+            if next == b'}' {
+                return Some(at);
+            }
+        }
         None
     }
-}
 
-/// The envelope of the compact object that begins there, of which the members nest at most `levels` deep, and its end.
-pub(crate) fn envelope_at(text: &str, start: usize, levels: usize) -> Option<(Envelope<'_>, usize)>
-    ensures envelope { IfSome result (λ r. HasEnvelopeAt levels text.now start r.1 r.0) }
-    ensures bounds { IfSome result (λ r. (start < r.1) × (r.1 ≤ length text.now)) }
-{
-    let bytes = text.as_bytes();
-    if start >= bytes.len() || bytes[start] != b'{' {
-        return None;
-    }
-    let mut envelope = Envelope {
-        version: None,
-        id: None,
-        method: None,
-        params: None,
-        result: None,
-        error: None,
-        request: None,
-    };
-    let mut at = start + 1;
-    while at < bytes.len() {
-        let from = name_end(bytes, at)?;
-        let end = value_end(bytes, from, levels)?;
-        if end == bytes.len() {
-            return None;
-        }
-        let next = bytes[end];
-        if next != b',' && next != b'}' {
-            return None;
-        }
-        envelope.note(&bytes[at + 1..from - 2], &text[from..end]);
-        at = end + 1;
-        if next == b'}' {
-            return Some((envelope, at));
-        }
-    }
-    None
-}
-
-impl<'a> Envelope<'a> {
-    fn note(&mut self, name: &[u8], part: &'a str)
-        ensures version { option_map (λ s. s.now) self.new.version
-            ≡ (if bytes_eq name.now (codes "jsonrpc") then Some part.now else option_map (λ s. s.now) self.old.version) }
-        ensures id { option_map (λ s. s.now) self.new.id
-            ≡ (if bytes_eq name.now (codes "id") then Some part.now else option_map (λ s. s.now) self.old.id) }
-        ensures method { option_map (λ s. s.now) self.new.method
-            ≡ (if bytes_eq name.now (codes "method") then Some part.now else option_map (λ s. s.now) self.old.method) }
-        ensures params { option_map (λ s. s.now) self.new.params
-            ≡ (if bytes_eq name.now (codes "params") then Some part.now else option_map (λ s. s.now) self.old.params) }
-        ensures result { option_map (λ s. s.now) self.new.result
-            ≡ (if bytes_eq name.now (codes "result") then Some part.now else option_map (λ s. s.now) self.old.result) }
-        ensures error { option_map (λ s. s.now) self.new.error
-            ≡ (if bytes_eq name.now (codes "error") then Some part.now else option_map (λ s. s.now) self.old.error) }
-        ensures request { option_map (λ s. s.now) self.new.request
-            ≡ (if bytes_eq name.now (codes "requestId") then Some part.now else option_map (λ s. s.now) self.old.request) }
+    fn note(&mut self, member: Member, part: &'a str)
+        ensures { self.new ≡ with_part member part.entry self.old }
     {
-        self.version = noted(name, b"jsonrpc", part, self.version);
-        self.id = noted(name, b"id", part, self.id);
-        self.method = noted(name, b"method", part, self.method);
-        self.params = noted(name, b"params", part, self.params);
-        self.result = noted(name, b"result", part, self.result);
-        self.error = noted(name, b"error", part, self.error);
-        self.request = noted(name, b"requestId", part, self.request);
+        match member {
+            Member::Version => self.version = Some(part),
+            Member::Id => self.id = Some(part),
+            Member::Method => self.method = Some(part),
+            Member::Params => self.params = Some(part),
+            Member::Result => self.result = Some(part),
+            Member::Error => self.error = Some(part),
+            Member::Request => self.request = Some(part),
+            Member::Other => {}
+        }
     }
 
     /// The text of the member by which such cancels name a request.
@@ -108,10 +109,88 @@ impl<'a> Envelope<'a> {
     }
 }
 
-/// The part, where it has the name that is wanted.
-#[inline(always)]
-fn noted<'a>(name: &[u8], wanted: &[u8], part: &'a str, before: Option<&'a str>) -> Option<&'a str>
-    ensures { option_map (λ s. s.now) result ≡ (if bytes_eq name.now wanted.now then Some part.now else option_map (λ s. s.now) before.entry) }
+/// The members that an envelope has, and any other.
+#[derive(Clone, Copy)]
+enum Member {
+    Version,
+    Id,
+    Method,
+    Params,
+    Result,
+    Error,
+    Request,
+    Other,
+}
+
+impl Member {
+    /// The member whose name, with its quotes and the colon behind it, the text begins with.
+    fn of(text: &[u8]) -> Member
+        ensures member { result ≡ member_of text.now }
+        ensures bound { IfSome (name_len result) (λ len. (3 ≤ len) × (len ≤ length text.now)) }
+    {
+        if begins(text, b"\"jsonrpc\":") {
+            return Member::Version;
+        }
+        if begins(text, b"\"id\":") {
+            return Member::Id;
+        }
+        if begins(text, b"\"method\":") {
+            return Member::Method;
+        }
+        if begins(text, b"\"params\":") {
+            return Member::Params;
+        }
+        if begins(text, b"\"result\":") {
+            return Member::Result;
+        }
+        if begins(text, b"\"error\":") {
+            return Member::Error;
+        }
+        if begins(text, b"\"requestId\":") {
+            return Member::Request;
+        }
+        Member::Other
+    }
+
+    /// The length of its name, with its quotes and the colon behind it.
+    fn name_len(self) -> Option<usize>
+        ensures { result ≡ name_len self }
+    {
+        match self {
+            Member::Version => Some(10),
+            Member::Id => Some(5),
+            Member::Method | Member::Params | Member::Result => Some(9),
+            Member::Error => Some(8),
+            Member::Request => Some(12),
+            Member::Other => None,
+        }
+    }
+}
+
+/// The member whose name begins there, and the end of the name and of the colon behind it. A name that an envelope has is
+/// told by its bytes, so that no search for its end is made and no name is compared twice.
+fn name_at(text: &[u8], at: usize) -> Option<(Member, usize)>
+    requires { at ≤ length text.now }
+    ensures name { IfSome result (λ r. HasMember text.now at r.1 r.0) }
+    ensures colon { IfSome result (λ r. get_or text.now (r.1 - 1) 0 ≡ 58) }
+    ensures bounds { IfSome result (λ r. (at + 3 ≤ r.1) × (r.1 ≤ length text.now)) }
 {
-    if name == wanted { Some(part) } else { before }
+    let member = Member::of(&text[at..]);
+    match member.name_len() {
+        Some(len) => Some((member, at + len)),
+        None => Some((member, name_end(text, at)?)),
+    }
+}
+
+/// Whether the text begins with the name. Names differ in their first 4 bytes, which `==` compares first and in place; a
+/// `starts_with` of so many names would be a call for each.
+#[inline(always)]
+fn begins(text: &[u8], name: &[u8]) -> bool
+    ensures value { result ≡ begins text.now name.now }
+    ensures bound { IsTrue result → length name.now ≤ length text.now }
+{
+    if text.len() < name.len() {
+        return false;
+    }
+    name == &text[..name.len()]
 }

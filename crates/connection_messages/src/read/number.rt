@@ -1,21 +1,24 @@
 //! Whole numbers, by their texts.
 
 ghost use Rattle.std.specs.Prelude.{◌≡◌, Some};
-ghost use Rattle.connection_messages.specs.Numbers.{unsigned_of, negative_of, negated, small_of, integer_of};
+ghost use Rattle.connection_messages.specs.Numbers.{unsigned_of, has_lead, negative_of, negated, small_of, integer_of};
 
-use itoa::Buffer;
-
-/// The number that the text is the decimal of.
+/// The number that the text is the decimal of. Without a lead each numeral is the decimal of its number, so the number isn't
+/// written again to be compared.
 pub(crate) fn unsigned(text: &str) -> Option<u64>
     ensures { result ≡ unsigned_of text.now }
 {
-    let number = text.parse::<u64>().ok()?;
-    let mut buffer = Buffer::new();
-    if buffer.format(number) == text {
-        Some(number)
-    } else {
-        None
+    if has_lead(text.as_bytes()) {
+        return None;
     }
+    text.parse::<u64>().ok()
+}
+
+/// Whether a plus or a 0 stands before more, which `parse` passes over and no decimal has.
+fn has_lead(text: &[u8]) -> bool
+    ensures { result ≡ has_lead text.now }
+{
+    text.len() > 1 && (text[0] == b'0' || text[0] == b'+')
 }
 
 /// The number below 0 that the text is the decimal of.
