@@ -31,7 +31,7 @@ has_key index caller key = sorted.contains pair_cmp index.pairs (caller, key)
 -- whether this number is among those of an id
 abbrev pub has_number : Numbers → ℕ → Bool
 has_number (One first) number = first == number
-has_number (Several numbers) number = sorted.contains nat_cmp numbers number
+has_number (Several numbers) number = sorted.contains nat_cmp numbers.value number
 
 abbrev pub is_in : ℕ → Option Numbers → Bool
 is_in number None = false

@@ -6,11 +6,12 @@ use std::alloc::{AllocError, Global};
 use std::collections::BTreeSet;
 
 /// The numbers of the open requests that have one id, and that no cancel has reached. Few ids are used twice at a time, so a
-/// number alone takes no memory of its own.
+/// number alone takes no memory of its own, and the set of several is boxed: its head would make each place in the
+/// tree of ids a third larger.
 #[derive(Drop)]
 pub enum Numbers {
     One(u64),
-    Several(BTreeSet<u64>),
+    Several(Box<BTreeSet<u64>>),
 }
 
 impl Numbers {
@@ -35,7 +36,7 @@ impl Numbers {
     {
         match self {
             Numbers::One(first) => {
-                let both = set_of(alloc, *first, number)?;
+                let both = Box::new(alloc, set_of(alloc, *first, number)?)?;
                 *self = Numbers::Several(both);
             }
             Numbers::Several(numbers) => {

@@ -1,5 +1,5 @@
 -- The state of the owed answers after a change.
-use Rattle.std.proofs.Common.{◌≡◌, ℕ, ◌<◌, ◌+◌, Bool, true, false, cond, Option, None, List, [], ◌∷◌, map, length, get_or, set, refl, ap, sym, ◌∙◌, arith}
+use Rattle.std.proofs.Common.{◌≡◌, ℕ, ◌<◌, ◌+◌, Bool, true, false, cond, Option, None, List, map, length, get_or, set, refl, ap, sym, ◌∙◌}
 use Rattle.std.proofs.lemmas.List.{length-map, map-set, get_or-map}
 use Rattle.std.proofs.lemmas.List.Sums.{sum_by-set}
 use Rattle.std.proofs.lemmas.Option.{unwrap_or-slice_get}
@@ -52,9 +52,3 @@ replace_count slots i text was lacks lacked lacking lt here text_is was_is count
 -- what stands in a slot
 pub slot_read : (slots : List Slot) (i : ℕ) (was : Slot) → i < length slots → was ≡ get_or slots i was → seen_slot was ≡ slot_in i (seen_slots slots)
 slot_read slots i was lt here = ap seen_slot here ∙ sym (get_or-map seen_slot slots i was None lt) ∙ sym (unwrap_or-slice_get (seen_slots slots) i None)
-
--- what a single slot lacks
-pub single_count : (slot : Slot) (lacks : Bool) → lacks ≡ is_none (seen_slot slot) → bool_byte lacks ≡ lacking_slots (seen_slots (slot ∷ []))
-single_count slot lacks is =
-    let one : weight (seen_slot slot) ≡ bool_byte lacks = weighs slot lacks is in
-    omega (arith, one)

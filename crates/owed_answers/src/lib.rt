@@ -2,6 +2,7 @@
 //! Contracts see it as a number and a list, and each call is constant or logarithmic in the length of that list.
 #![tactic(auto)]
 
+mod batch;
 mod owed;
 mod owed_answers;
 mod slot;

@@ -4,6 +4,7 @@ ghost use Rattle.connection_messages.specs.Texts.{batch_text};
 ghost use Rattle.owed_answers.specs.Inner.{behind, next_mark};
 ghost use Rattle.owed_answers.specs.Owed.{first_or_none, seen_slot, seen_slots, slot_text, slot_texts, some_text};
 
+use crate::batch::Batch;
 use crate::slot::Slot;
 use crate::slots::Slots;
 use std::alloc::AllocError;
@@ -12,26 +13,22 @@ use std::marker::Model;
 /// A unit whose answer isn't out: of each entry that has an answer its text, once it is given.
 #[derive(Drop)]
 pub struct Owed {
-    is_batch: bool,
     slots: Slots,
-    /// How many slots have no text, counted as they change: the invariant says so.
-    lacking: u64,
 }
 
 impl Model for Owed {
-    ghost use Rattle.std.specs.Prelude.{◌≡◌};
-    ghost use Rattle.owed_answers.specs.Owed.{OwedUnit, seen_slots, lacking_slots};
+    ghost use Rattle.owed_answers.specs.Owed.{OwedUnit, seen_slots};
 
     ghost Value = { OwedUnit };
 
-    ghost use Rattle.owed_answers.specs.Slots.{slots_of};
+    ghost use Rattle.owed_answers.specs.Slots.{is_several, slots_of, IsCounted};
 
     ghost view = { λ a. record {
-      is_batch = a.is_batch;
+      is_batch = is_several a.slots;
       slots = seen_slots (slots_of a.slots);
     } };
 
-    ghost invariant = { λ a. a.lacking ≡ lacking_slots (seen_slots (slots_of a.slots)) };
+    ghost invariant = { λ a. IsCounted a.slots };
 }
 
 impl Owed {
@@ -40,11 +37,8 @@ impl Owed {
     pub fn batch(slots: Vec<Slot>) -> Owed
         ensures { result ≡ record { is_batch = true; slots = seen_slots slots.items } }
     {
-        let lacking = slots.iter().filter(|slot| slot.is_lacking()).count() as u64;
         Owed {
-            is_batch: true,
-            slots: Slots::Several(slots),
-            lacking,
+            slots: Slots::Several(Batch::new(slots)),
         }
     }
 
@@ -52,11 +46,8 @@ impl Owed {
     pub fn single(slot: Slot) -> Owed
         ensures { result ≡ record { is_batch = false; slots = seen_slots (slot ∷ []) } }
     {
-        let lacking = slot.is_lacking() as u64;
         Owed {
-            is_batch: false,
             slots: Slots::One(slot),
-            lacking,
         }
     }
 
@@ -64,7 +55,7 @@ impl Owed {
     pub fn is_batch(&self) -> bool
         ensures { result ≡ self.now.is_batch }
     {
-        self.is_batch
+        self.slots.is_several()
     }
 
     /// How many slots there are.
@@ -78,7 +69,7 @@ impl Owed {
     pub fn lacking(&self) -> u64
         ensures { result ≡ lacking self.now }
     {
-        self.lacking
+        self.slots.lacking()
     }
 
     /// Whether there is something to write: a text that isn't empty.
@@ -97,11 +88,7 @@ impl Owed {
         if slot >= self.slots.len() {
             return Slot::Lacking;
         }
-        let lacks = text.is_lacking();
-        let was = self.slots.replace(slot, text);
-        self.lacking += lacks as u64;
-        self.lacking -= was.is_lacking() as u64;
-        was
+        self.slots.replace(slot, text)
     }
 
     /// Puts the unit's answer behind these bytes, where there is something to write.
@@ -110,7 +97,7 @@ impl Owed {
         ensures err { OnErr result (bytes.new.items ≡ bytes.old.items) }
     {
         let slots = self.slots.as_slice();
-        if !self.is_batch {
+        if !self.is_batch() {
             put_first(bytes, slots)
         } else if some_answer(slots) {
             put_array(bytes, slots)
