@@ -1,6 +1,8 @@
 //! What the host says.
 
 ghost use Rattle.std.specs.Prelude.{◌≡◌, ◌+◌, ◌∷◌, List, Some, None, IfOk, IfErr, OnOk, OnErr};
+ghost use Rattle.json_texts.specs.Texts.{IsJsonText};
+ghost use Rattle.connection_messages.specs.declared.answer.Answer.TheVariants.{Result};
 ghost use Rattle.connection_history.specs.declared.event.Event.{Event};
 ghost use Rattle.connection_history.specs.History.{History, called, called_all, noticed, withdrew, answered, key_count};
 ghost use Rattle.connection_history.specs.Refusals.{refusal, after, by_of, cancel_answer, cancel_of};
@@ -98,6 +100,23 @@ impl Connection {
     {
         answer.is_answer();
         self.desk.answer(number, answer)
+    }
+
+    /// The same with the result that is this text, which is copied nowhere but into what is written.
+    pub fn answer_result(&mut self, number: u64, text: &str) -> Result<(), Refused>
+        requires { IsJsonText text.now }
+        ensures ok { (history : History) (told : List Event) →
+            StandsAfter self.old history told → OnOk result
+            ((refusal self.old.settings.cancels history (answered number (Some (Result text.now))) ≡ None) ×
+            StandsAfter self.new (answered number (Some (Result text.now)) ∷ history) told) }
+        ensures err { IfErr result (λ why. (self.new ≡ self.old) ×
+            ((history : History) (told : List Event) → StandsAfter self.old history told →
+            IsRefusal why (refusal self.old.settings.cancels history (answered number (Some (Result text.now)))))) }
+        ensures settings { self.new.settings ≡ self.old.settings }
+        ensures stream { self.new.stream ≡ self.old.stream }
+        ensures taken { (output self.new).taken ≡ (output self.old).taken }
+    {
+        self.desk.answer_result(number, text)
     }
 
     /// Withdraws the calls of the open call with this number that wait, and answers it with the error `Request cancelled`;

@@ -6,6 +6,8 @@ use Rattle.std.specs.Vec.{vec_capacity}
 use Rattle.std.specs.VecDeque.{deque_capacity, deque_len}
 use Rattle.message_ids.specs.declared.id.Id.{Id}
 use Rattle.connection_messages.specs.Texts.{withdrawal_text}
+use Rattle.connection_messages.specs.declared.answer.Answer.{Answer}
+use Rattle.connection_messages.specs.declared.answer.Answer.TheVariants as answer
 use Rattle.connection_messages.specs.declared.cancels.Cancels.{Cancels}
 use Rattle.connection_messages.specs.declared.entry.Entry.{Entry}
 use Rattle.connection_messages.specs.declared.entry.Entry.TheVariants.{Call, Cancel, Reply, Stray, Invalid}
@@ -26,6 +28,8 @@ use Rattle.owed_answers.specs.Owed.{OwedUnit, seen_slot, seen_slots, unit_texts}
 use Rattle.connection_history.specs.declared.order.Order.TheVariants.{AsAnswered, AsCame}
 use Rattle.connection_steps.specs.States.{is_batch, owed_slots, slot_count}
 use Rattle.connection_steps.specs.Steps.{leaving, is_complete, new_unit_slots, reached_numbers, own_after}
+use Rattle.connection_desk.specs.declared.answering.Given.TheVariants as given
+use Rattle.connection_desk.specs.declared.answering.Given.{Given}
 use Rattle.connection_desk.specs.declared.events.Events.{Events}
 use Rattle.connection_desk.specs.declared.tally.Tally.{Tally}
 use Rattle.connection_desk.specs.declared.unit_slots.UnitSlots.{UnitSlots}
@@ -231,6 +235,12 @@ counted_in (Batch es) n own calls t = counted_along n own calls es t
 -- ---- a call is cancelled by the host
 
 -- the notifications that withdraw the calls of n, of those that wait
+-- what a call is answered with, unless it is closed without an answer
+abbrev pub given_answer : Given → Option Answer
+given_answer (given.Answer a) = Some a.now
+given_answer (given.Result text) = Some (answer.Result text.now)
+given_answer given.Nothing = None
+
 abbrev pub withdrawals_of : Option Cancels → ℕ → List (ℕ × OwnCall) → List (List ℕ)
 withdrawals_of None n waiting = []
 withdrawals_of (Some by) n waiting = map (withdrawal_text by) (map (λ e. e.0) (filter (λ e. is_wanted_by n e.1) waiting))

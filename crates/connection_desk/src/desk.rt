@@ -165,8 +165,9 @@ impl Desk {
         self.outbox.pending()
     }
 
-    /// For how many bytes there is room, or the greatest number: for what is to be taken, but for the texts of Contents, and
-    /// for the next text. Where all was taken it is little, whatever was written.
+    /// For how many bytes there is room, or the greatest number: for the next text, and in Frames and Lines for what is to
+    /// be taken. In Contents each text has memory of its own, which isn't counted. Where all was taken it is little,
+    /// whatever was written.
     pub fn held(&self) -> usize
         ensures all { self.now.out.framing ≢ Contents → length (next_of self.now.out) ≤ result }
         ensures little { IsAllTaken self.now.out → result ≤ 73728 }
@@ -218,6 +219,15 @@ impl Desk {
         self.outbox.put_from(&mut text)?;
         self.keep_room(text);
         Ok(())
+    }
+}
+
+/// Lets go of the room of a large text.
+pub(crate) fn let_go(alloc: Global, room: &mut Vec<u8>)
+    ensures { vec_capacity room.new ≤ 65536 }
+{
+    if room.capacity() > KEPT_ROOM {
+        *room = Vec::new(alloc);
     }
 }
 

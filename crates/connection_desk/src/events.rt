@@ -58,7 +58,9 @@ impl Events {
         self.items.reserve(count)
     }
 
-    /// Puts an event behind the others. There is room for it.
+    /// Puts an event behind the others. There is room for it. It is a part of its callers: as a call it would take the
+    /// event's 14 words behind a pointer, so they would be moved twice more.
+    #[inline(always)]
     pub fn push(&mut self, event: Event)
         requires room { 0 < room_of self.old }
         requires open { IsOpenEnded self.old }
@@ -95,10 +97,9 @@ impl Events {
         if let Some(key) = self.unanswered.pop_first() {
             return Some(Event::Unanswered { key });
         }
-        match self.over.take() {
-            Some(close) => Some(Event::Over(close)),
-            None => None,
-        }
+        let close = self.over?;
+        self.over = None;
+        Some(Event::Over(close))
     }
 
     /// Room for many events is given back once all are told, also where none came: what a large batch took isn't kept.

@@ -15,7 +15,7 @@ ghost use Rattle.connection_steps.specs.Steps.{leaving, staying, new_call_slots,
 ghost use Rattle.connection_desk.specs.Desks.{answer_count, answer_texts, with_answers, with_texts};
 ghost use Rattle.connection_desk.specs.Inner.{IsAdmitted, IsLonger, IsOpenEnded, added_call, added_calls, are_several, has_cancel as has_cancel_in, is_telling as is_telling_entry, most_events as most_events_in, owed_in, room_of, slots_in, untold_of};
 
-use crate::desk::Desk;
+use crate::desk::{Desk, let_go};
 use crate::events::Events;
 use crate::leaving::let_out;
 use crate::settling::settle;
@@ -42,7 +42,6 @@ impl Desk {
     {
         numbers_above_one::<TheirCall>();
         numbers_below_one::<TheirCall>();
-        let mut room = self.take_room();
         // The prover has the range of each count once it is read.
         let _tally = self.tally;
         let came = self.theirs.came();
@@ -56,14 +55,16 @@ impl Desk {
             &unit,
             first,
         )?;
-        if let Err(refused) = owe(
+        let owed = owe(
             self.order,
             &mut self.owed,
             &mut self.outbox,
-            &mut room,
+            &mut self.room,
             &mut self.tally,
             slots,
-        ) {
+        );
+        let_go(self.alloc, &mut self.room);
+        if let Err(refused) = owed {
             self.theirs.take_back(came);
             return Err(refused);
         }
@@ -76,7 +77,6 @@ impl Desk {
             came,
             unit,
         );
-        self.keep_room(room);
         Ok(())
     }
 }

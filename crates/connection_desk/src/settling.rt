@@ -75,7 +75,9 @@ fn settle_entries(
     }
 }
 
-/// What an entry does, where the call before it has this number. Gives the number of the last call then.
+/// What an entry does, where the call before it has this number. Gives the number of the last call then. It is a part of
+/// its two callers, so that an entry by itself, as most are, is moved at once from where it was read to its event.
+#[inline(always)]
 fn settle_entry(
     own: &mut OwnCalls,
     theirs: &mut TheirCalls,

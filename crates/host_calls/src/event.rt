@@ -1,7 +1,7 @@
 //! An event's head and texts.
 
 ghost use Rattle.std.specs.Prelude.{◌≡◌, [], length};
-ghost use Rattle.host_calls.specs.Events.{head_with, name_of, text_of, or_empty, flag_of, replied_with, broken_with, count_of};
+ghost use Rattle.host_calls.specs.Events.{no_head, head_with, name_of, text_of, name_replied, text_replied, or_empty, flag_of, replied_with, broken_with, count_of};
 
 use crate::head::{EventHead, NO_HEAD};
 use connection_history::{Close, Defect, Event};
@@ -34,83 +34,127 @@ impl EventTexts {
         }
     }
 
-    /// Moves an event's name and text here. Takes no memory.
-    pub(crate) fn take_from(&mut self, alloc: Global, event: Event)
+    /// Moves an event's name and text here, and gives its head, where its id is here already. Takes no memory.
+    pub(crate) fn take_from(&mut self, alloc: Global, event: Event) -> EventHead
+        ensures head { result ≡
+            head_with (length (name_of event)) (length (text_of event)) (length self.old.id.items) event }
         ensures name { self.new.name.items ≡ name_of event }
         ensures text { self.new.text.items ≡ text_of event }
         ensures id { self.new.id ≡ self.old.id }
     {
-        let (name, text) = texts_of(alloc, event);
+        let (head, name, text) = parts_of(alloc, event);
         self.name = name;
         self.text = text;
+        EventHead {
+            name_len: self.name.len(),
+            text_len: self.text.len(),
+            id_len: self.id.len(),
+            ..head
+        }
     }
 }
 
-/// An event's head, where its id has so many bytes.
-pub(crate) fn head_of(event: &Event, id_len: usize) -> EventHead
-    ensures { result ≡ head_with (length (name_of event.now)) (length (text_of event.now)) id_len event.now }
+/// An event's head without lengths, its name and its text, each by itself. What it tells is looked at once.
+fn parts_of(alloc: Global, event: Event) -> (EventHead, Vec<u8>, Vec<u8>)
+    ensures head { result.0 ≡ head_with 0 0 0 event }
+    ensures name { result.1.items ≡ name_of event }
+    ensures text { result.2.items ≡ text_of event }
 {
-    let head = EventHead {
-        name_len: name_of(event).len(),
-        text_len: text_of(event).len(),
-        id_len,
-        ..NO_HEAD
-    };
     match event {
-        Event::Call { number, call } => EventHead {
-            kind: 1,
-            flags: call.id.is_some() as u32,
-            number: *number,
-            ..head
-        },
-        Event::Cancelled { number } => EventHead {
-            kind: 2,
-            number: *number,
-            ..head
-        },
-        Event::Replied { key, reply } => replied(*key, reply, head),
-        Event::Unanswered { key } => EventHead {
-            kind: 4,
-            key: *key,
-            ..head
-        },
-        Event::Over(close) => EventHead {
-            kind: 5,
-            flags: flag_of(*close),
-            ..head
-        },
-        Event::Broken(broken) => broken_head(broken.place, broken.defect, head),
+        Event::Call { number, call } => {
+            let head = EventHead {
+                kind: 1,
+                flags: call.id.is_some() as u32,
+                number,
+                ..NO_HEAD
+            };
+            (
+                head,
+                bytes_of(call.method),
+                bytes_or_none(alloc, call.params),
+            )
+        }
+        Event::Replied { key, reply } => parts_of_reply(alloc, key, reply),
+        Event::Broken(broken) => (
+            broken_head(broken.place, broken.defect),
+            Vec::new(alloc),
+            broken.start.into_vec(),
+        ),
+        Event::Cancelled { number } => without_texts(
+            alloc,
+            EventHead {
+                kind: 2,
+                number,
+                ..NO_HEAD
+            },
+        ),
+        Event::Unanswered { key } => without_texts(
+            alloc,
+            EventHead {
+                kind: 4,
+                key,
+                ..NO_HEAD
+            },
+        ),
+        Event::Over(close) => without_texts(
+            alloc,
+            EventHead {
+                kind: 5,
+                flags: flag_of(close),
+                ..NO_HEAD
+            },
+        ),
     }
 }
 
-fn replied(key: u64, reply: &Reply, head: EventHead) -> EventHead
-    ensures { result ≡ replied_with head key reply.now }
+fn without_texts(alloc: Global, head: EventHead) -> (EventHead, Vec<u8>, Vec<u8>)
+    ensures head { result.0 ≡ head }
+    ensures name { result.1.items ≡ [] }
+    ensures text { result.2.items ≡ [] }
+{
+    (head, Vec::new(alloc), Vec::new(alloc))
+}
+
+fn parts_of_reply(alloc: Global, key: u64, reply: Reply) -> (EventHead, Vec<u8>, Vec<u8>)
+    ensures head { result.0 ≡ replied_with no_head key reply }
+    ensures name { result.1.items ≡ name_replied reply }
+    ensures text { result.2.items ≡ text_replied reply }
 {
     match reply {
-        Reply::Result(_) => EventHead {
-            kind: 3,
-            key,
-            ..head
-        },
-        Reply::Error(error) => EventHead {
-            kind: 3,
-            flags: 1,
-            key,
-            code: error.code,
-            ..head
-        },
+        Reply::Result(text) => {
+            let head = EventHead {
+                kind: 3,
+                key,
+                ..NO_HEAD
+            };
+            (head, Vec::new(alloc), bytes_of(text))
+        }
+        Reply::Error(error) => {
+            let head = EventHead {
+                kind: 3,
+                flags: 1,
+                key,
+                code: error.code,
+                ..NO_HEAD
+            };
+            (
+                head,
+                bytes_of(error.message),
+                bytes_or_none(alloc, error.data),
+            )
+        }
     }
 }
 
 /// A content that stands at this place has this defect.
-fn broken_head(place: u64, defect: Defect, head: EventHead) -> EventHead
-    ensures { result ≡ broken_with head place defect }
+fn broken_head(place: u64, defect: Defect) -> EventHead
+    ensures { result ≡ broken_with no_head place defect }
 {
     match defect {
         Defect::Unreadable => EventHead {
             kind: 6,
             number: place,
-            ..head
+            ..NO_HEAD
         },
         Defect::Invalid { first, count } => EventHead {
             kind: 6,
@@ -118,7 +162,7 @@ fn broken_head(place: u64, defect: Defect, head: EventHead) -> EventHead
             number: place,
             key: first,
             code: count_of(count),
-            ..head
+            ..NO_HEAD
         },
     }
 }
@@ -146,55 +190,6 @@ fn flag_of(close: Close) -> u32
         },
         Close::ReadFailed => 8,
         Close::Full => 9,
-    }
-}
-
-fn name_of(event: &Event) -> &[u8]
-    ensures { result.now ≡ name_of event.now }
-{
-    match event {
-        Event::Call { call, .. } => call.method.as_bytes(),
-        Event::Replied { reply, .. } => match reply {
-            Reply::Error(error) => error.message.as_bytes(),
-            Reply::Result(_) => &[],
-        },
-        _ => &[],
-    }
-}
-
-fn text_of(event: &Event) -> &[u8]
-    ensures { result.now ≡ text_of event.now }
-{
-    match event {
-        Event::Call { call, .. } => match &call.params {
-            Some(params) => params.as_bytes(),
-            None => &[],
-        },
-        Event::Replied { reply, .. } => match reply {
-            Reply::Result(text) => text.as_bytes(),
-            Reply::Error(error) => match &error.data {
-                Some(data) => data.as_bytes(),
-                None => &[],
-            },
-        },
-        Event::Broken(broken) => broken.start.as_slice(),
-        _ => &[],
-    }
-}
-
-/// An event's name and text, each by itself.
-fn texts_of(alloc: Global, event: Event) -> (Vec<u8>, Vec<u8>)
-    ensures name { result.0.items ≡ name_of event }
-    ensures text { result.1.items ≡ text_of event }
-{
-    match event {
-        Event::Call { call, .. } => (bytes_of(call.method), bytes_or_none(alloc, call.params)),
-        Event::Replied { reply, .. } => match reply {
-            Reply::Result(text) => (Vec::new(alloc), bytes_of(text)),
-            Reply::Error(error) => (bytes_of(error.message), bytes_or_none(alloc, error.data)),
-        },
-        Event::Broken(broken) => (Vec::new(alloc), broken.start.into_vec()),
-        _ => (Vec::new(alloc), Vec::new(alloc)),
     }
 }
 

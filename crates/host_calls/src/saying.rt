@@ -1,12 +1,13 @@
 //! What the host says.
 
 ghost use Rattle.std.specs.Prelude.{◌≡◌, [], true, IfOk, IfErr};
+ghost use Rattle.json_texts.specs.Texts.{IsJsonText};
 ghost use Rattle.connection_desk.specs.Desks.{has_call};
 ghost use Rattle.host_calls.specs.Saying.{HasEnded, HasCalled, HasNotified, HasWithdrawn, HasAnswered, HasFailed, HasCancelled, IsAnswer, IsNoAnswer, how_of};
 
 use crate::code::Why;
 use crate::outlet::Outlet;
-use crate::texts::{failure_of, json_of, outgoing_of};
+use crate::texts::{compact_text, failure_of, json_of, outgoing_of};
 use connection::{Answer, Connection, HowEnded, Refused};
 use json_texts::TextReader;
 use message_ids::Standard;
@@ -57,9 +58,23 @@ impl Outlet {
     pub fn answer(&mut self, number: u64, bytes: &[u8]) -> Result<(), Why>
         ensures { HasAnswered self.old self.new number bytes.now result }
     {
+        if let Some(text) = compact_text(bytes) {
+            return self.answer_compact(number, text);
+        }
         let answer = read_result(&self.connection, &mut self.reader, number, bytes)?;
         self.connection.answer(number, &answer)?;
         Ok(())
+    }
+
+    /// The same with a text that is compact, which isn't copied before it is written.
+    fn answer_compact(&mut self, number: u64, text: &str) -> Result<(), Why>
+        requires { IsJsonText text.now }
+        ensures { HasAnswered self.old self.new number text.now result }
+    {
+        match self.connection.answer_result(number, text) {
+            Ok(()) => Ok(()),
+            Err(refused) => Err(Why::Refused(refused)),
+        }
     }
 
     /// Closes a notification. A request isn't closed without a result.

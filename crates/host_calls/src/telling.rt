@@ -3,7 +3,7 @@
 ghost use Rattle.host_calls.specs.Hosting.{Asked};
 
 use crate::code::Why;
-use crate::event::{EventTexts, head_of};
+use crate::event::EventTexts;
 use crate::head::{LentEvent, NO_HEAD};
 use crate::hosted::HostedConnection;
 use crate::id::put_id;
@@ -21,8 +21,7 @@ impl HostedConnection {
         };
         match put_id(self.outlet.alloc, &next, &mut self.texts.id) {
             Ok(()) => {
-                let head = head_of(&next, self.texts.id.len());
-                self.texts.take_from(self.outlet.alloc, next);
+                let head = self.texts.take_from(self.outlet.alloc, next);
                 *event = LentEvent::new(head, &self.texts);
                 Ok(())
             }

@@ -1,11 +1,12 @@
 //! What the host passes as bytes.
 
-ghost use Rattle.std.specs.Prelude.{◌≡◌, IfOk, IfErr};
+ghost use Rattle.std.specs.Prelude.{◌≡◌, IfOk, IfErr, IfSome};
+ghost use Rattle.json_texts.specs.Texts.{IsJsonText};
 ghost use Rattle.host_calls.specs.Passed.{IsText, IsntText, IsJson, IsntJson, IsData, IsntData, IsParams, AreNoParams, IsOutgoing, IsNoOutgoing, IsFailure, IsNoFailure};
 
 use crate::code::Why;
 use connection::{Answer, AnswerError, Outgoing, OutgoingParams};
-use json_texts::{JsonText, TextReader};
+use json_texts::{JsonText, MOST_DEPTH_OUT, TextReader, utf8_text, value_end};
 use json_values::Text;
 use std::alloc::Global;
 
@@ -18,6 +19,15 @@ fn text_of(alloc: Global, bytes: &[u8]) -> Result<Text, Why>
         return Err(Why::NotText);
     };
     Ok(Text::copy_of(alloc, text)?)
+}
+
+/// The text of bytes that are seen to be the compact text of a value. It may be one also where this isn't seen.
+pub(crate) fn compact_text(bytes: &[u8]) -> Option<&str>
+    ensures { IfSome result (λ text. (text.now ≡ bytes.now) × IsJsonText text.now) }
+{
+    let text = utf8_text(bytes)?;
+    let end = value_end(bytes, 0, MOST_DEPTH_OUT)?;
+    if end == bytes.len() { Some(text) } else { None }
 }
 
 /// A result.

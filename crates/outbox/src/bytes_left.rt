@@ -62,7 +62,8 @@ impl BytesLeft {
         self.front.capacity().saturating_add(self.back.capacity())
     }
 
-    /// Puts the text at the end, as this framing writes it.
+    /// Puts the text at the end, as this framing writes it. It is a part of its two callers, which only pass on.
+    #[inline(always)]
     pub fn put(&mut self, framing: Framing, text: &[u8]) -> Result<(), AllocError>
         ensures ok { OnOk result (self.new ≡ self.old ++ framed framing text.now) }
         ensures err { OnErr result (self.new ≡ self.old) }

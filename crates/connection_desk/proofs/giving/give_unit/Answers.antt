@@ -1,5 +1,4 @@
-use Rattle.std.proofs.Common.{Some, [], ◌∷◌, length, sym, ap, ◌∙◌, arith}
-use Rattle.owed_answers.specs.Owed.{slot_texts}
+use Rattle.std.proofs.Common.{length, sym, ap, ◌∙◌, arith}
 use Rattle.connection_desk.specs.Desks.{with_texts}
 use Rattle.connection_desk.proofs.GivenTexts.{alone_complete, alone_texts}
 use Rattle.connection_desk.proofs.giving.give_unit.Goals as goal

@@ -1,5 +1,5 @@
 use Rattle.std.proofs.Common.{◌≡◌, Some, sym, ap, ◌∙◌}
-use Rattle.std.specs.Option.{option_copied}
+use Rattle.connection_desk.specs.Inner.{given_answer}
 use Rattle.connection_steps.specs.Steps.{leaving, owed_given, staying}
 use Rattle.connection_history.specs.Counts.{capped}
 use Rattle.open_calls.specs.Numbered.{at}
@@ -14,7 +14,7 @@ use Rattle.connection_desk.proofs.desk.Desk.cancel.Goals as goal
 pub invariant_of-self-2 : goal.invariant_of-self-2
 invariant_of-self-2 c =
     let d = c.self.inside in
-    desk_stays d.order (owed_given (Some c.in-Some.call.now) (option_copied c.cancel_answer-answer.result) d.owed.owed) c.answer_call.new.owed.owed d.is_over d.events c.emptied-room.new.room
+    desk_stays d.order (owed_given (Some c.in-Some.call.now) (given_answer c.cancel_answer-given.result) d.owed.owed) c.answer_call.new.owed.owed d.is_over d.events c.emptied-room.new.room
     c.self.invariant.open_ended (c.emptied-room.ensures.left c.self.invariant.kept) (ap (λ (s : OwedState). s.owed) c.in-Ok.ensures.owed)
 
 pub returns-clause-ok : goal.returns-clause-ok
@@ -26,7 +26,7 @@ returns-clause-ok c =
     let there : at n d.theirs.calls ≡ Some call = sym c.in-Some.ensures in
     let said = withdrawals_in d.cancels n seen.state in
     let answer = cancel_answer_in d.cancels n seen.state in
-    let is : option_copied c.cancel_answer-answer.result ≡ answer = c.cancel_answer-answer.ensures ∙ cancel_answer_is d.cancels n seen.state call there in
+    let is : given_answer c.cancel_answer-given.result ≡ answer = c.cancel_answer-given.ensures ∙ cancel_answer_is d.cancels n seen.state call there in
     let owed = d.owed.owed in (
       not_refused n c.args.self.now.state call (sym (ap (λ (x : Desk). at n x.state.theirs.calls) c.self.view_is) ∙ there),
       c.keep_room.ensures

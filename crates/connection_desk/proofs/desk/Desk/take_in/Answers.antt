@@ -41,7 +41,7 @@ invariant_of-self-2 c =
     record {
       settled = subst (λ (s : OwedState). leaving order s.owed ≡ []) (sym c.in_default.ensures.owed) (none-leaving order (was.owed ++ new));
       open_ended = λ _. c.settle.ensures.open;
-      kept = c.self.invariant.kept;
+      kept = c.let_go.ensures;
     }
 
 abbrev state : OwnState → TheirState → OwedState → Bool → State
@@ -102,16 +102,15 @@ returns-clause-ok c =
     let few : IsFew d.tally = record { requests = omega arith; invalid = omega arith; ignored = omega arith } in
     let counted : c.settle.new.tally ≡ with_counts (tally_in d.order unit (state d.own d.theirs d.owed d.is_over)) d.tally =
     c.settle.ensures.tally
-    ∙ ap (λ (s : TheirState). counted_in unit c.came-came.result d.own s.calls c.owe.new.tally) admitted
-    ∙ ap (λ m. counted_in unit m d.own (d.theirs.calls ++ added_calls d.owed.places 0 n es) c.owe.new.tally) c.came-came.ensures.came
+    ∙ ap (λ (s : TheirState). counted_in unit c.came-came.result d.own s.calls c.owe-owed.new.tally) admitted
+    ∙ ap (λ m. counted_in unit m d.own (d.theirs.calls ++ added_calls d.owed.places 0 n es) c.owe-owed.new.tally) c.came-came.ensures.came
     ∙ ap (counted_in unit n d.own (d.theirs.calls ++ added_calls d.owed.places 0 n es))
     (c.in_default.ensures.tally ∙ ap (λ owed. with_answers (answer_count (leaving d.order owed)) d.tally) owing)
     ∙ unit_counted laws d.owed.places n d.own d.theirs.calls unit answers d.tally under few (omega arith) in
-    c.keep_room.ensures
-    ∙ same-desk d.cancels d.order d.is_over c.settle.new.own (own_after_all es d.own) c.settle.new.theirs (theirs_after_all d.owed.places 0 es d.theirs)
-    c.owe.new.owed (owed_state (d.owed.places + 1) (staying d.order (d.owed.owed ++ owed_slots d.owed.places (is_batch unit) (new_unit_slots unit))))
+    same-desk d.cancels d.order d.is_over c.settle.new.own (own_after_all es d.own) c.settle.new.theirs (theirs_after_all d.owed.places 0 es d.theirs)
+    c.owe-owed.new.owed (owed_state (d.owed.places + 1) (staying d.order (d.owed.owed ++ owed_slots d.owed.places (is_batch unit) (new_unit_slots unit))))
     (untold_of c.settle.new.events) (untold_of d.events ++ (front ++ told_of_all d.own d.theirs es))
-    c.owe.new.outbox (with_texts (answer_texts (leaving d.order (d.owed.owed ++ owed_slots d.owed.places (is_batch unit) (new_unit_slots unit)))) d.outbox)
+    c.owe-owed.new.outbox (with_texts (answer_texts (leaving d.order (d.owed.owed ++ owed_slots d.owed.places (is_batch unit) (new_unit_slots unit)))) d.outbox)
     c.settle.new.tally (with_counts (tally_in d.order unit (state d.own d.theirs d.owed d.is_over)) d.tally)
     c.settle.ensures.own
     theirs
@@ -120,4 +119,4 @@ returns-clause-ok c =
     ∙ append_assoc (untold_of d.events) front _ ∙ ap (λ xs. untold_of d.events ++ (front ++ xs)) told)
     (c.in_default.ensures.outbox ∙ ap (λ owed. with_texts (answer_texts (leaving d.order owed)) d.outbox) owing)
     counted
-    ∙ ap (λ x. after_unit c.args.broken unit x) (c.self.view_is ∙ c.take_room-room.ensures.state)
+    ∙ ap (λ x. after_unit c.args.broken unit x) c.self.view_is
