@@ -1,7 +1,7 @@
 """usage: python3 checks/c_library_memory.py [--library FOLDER] [--cases N]      watches N random sessions, 150 where none are named
 
 What the C library does with memory. Two million calls come to a connection, and the most memory that is resident is the
-same as after the first 100,000; where a host closes no notification it is seen to grow. The longest batch of invalid
+same as after the first 100,000, also where a content always waits; where a host closes no notification it is seen to grow. The longest batch of invalid
 entries takes at most 160 bytes for each of its bytes, one that is too long 3. It leaves 64 KiB at most, and so does
 whatever else is large or comes often: content, line or response of 16 MB, 100,000 open calls, for a connection and for a
 judge, and behind the second and the third of them there are the same bytes, to the kilobyte. A judge that is shown 100,000
@@ -115,6 +115,9 @@ def check_steady(count: ran.Count, library: str, room: str) -> None:
     got = said([program, str(CALLS // 2), "together"])
     early, late = map(int, got[1].split()) if got[0] == 0 else (0, 1 << 60)
     count.check("it does so with few calls", 0 < early and late <= early + FLAT, f"{got}")
+    got = said([program, str(CALLS // 4), "behind"])
+    early, late = map(int, got[1].split()) if got[0] == 0 else (0, 1 << 60)
+    count.check("it does so where a content always waits", 0 < early and late <= early + FLAT, f"{got}")
     got = said([program, str(FEW_CALLS), "forget"])
     early, late = map(int, got[1].split()) if got[0] == 0 else (0, 0)
     count.check("a host that closes no notification grows", late > early + GROWN, f"{got}")

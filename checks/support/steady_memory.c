@@ -1,9 +1,10 @@
-/* usage: steady_memory CALLS [forget|together]
+/* usage: steady_memory CALLS [forget|together|behind]
  *
  * Has so many calls come to a connection, whose methods call back and are answered behind later ones; prints the
  * most memory that the process had resident, in KiB, after a twentieth of them, and in the end. (What getrusage
  * tells isn't used: it counts what the process was forked from.) With `forget` it closes no notification, so that
- * its memory has to be seen to grow. With `together`, what is said is said by one call. */
+ * its memory has to be seen to grow. With `together`, what is said is said by one call. With `behind`, the last content
+ * that came waits until the next one has come, so that there is always one that waits. */
 #include "bullmyrtle.h"
 
 #include <stdio.h>
@@ -15,7 +16,7 @@ enum { OPEN = 100, ROOM = 1 << 16 };
 
 static bm_connection connection;
 static uint64_t open_ones[OPEN], came, replies;
-static bool forgets, together;
+static bool forgets, together, is_behind;
 
 static void check(bool is_so, const char *what)
 {
@@ -111,10 +112,11 @@ static void came_in(const bm_event *event)
         check(bm_close_call(&connection, event->number) == BM_OK, "bm_close_call");
 }
 
-static void hear(void)
+/* Until so many calls have come, or nothing more has. */
+static void hear(uint64_t most)
 {
     bm_event event;
-    for (;;) {
+    while (came < most) {
         check(bm_next(&connection, &event) == BM_OK, "bm_next");
         if (event.kind == BM_NONE)
             return;
@@ -144,10 +146,11 @@ static long most_memory(void)
 int main(int count, char **words)
 {
     bm_options options = {.size = sizeof options, .framing = BM_LINES, .cancels = BM_CANCELS_LSP};
-    check(count == 2 || count == 3, "usage: steady_memory CALLS [forget|together]");
+    check(count == 2 || count == 3, "usage: steady_memory CALLS [forget|together|behind]");
     uint64_t calls = strtoull(words[1], NULL, 10);
     forgets = count == 3 && !strcmp(words[2], "forget");
     together = count == 3 && !strcmp(words[2], "together");
+    is_behind = count == 3 && !strcmp(words[2], "behind");
     check(bm_open(&options, &connection.at) == BM_OK, "bm_open");
     long early = 0;
     for (uint64_t i = 1; came < calls; i++) {
@@ -159,7 +162,7 @@ int main(int count, char **words)
         feed(line);
         if (i % 10 == 0)
             feed("broken");
-        hear();
+        hear(is_behind ? 2 * (i - 1) : UINT64_MAX);
         if (together)
             say_all();
         put();

@@ -16,7 +16,7 @@ use Rattle.json.specs.Run.{is_plain}
 use Rattle.json.proofs.Printed.Numbers.{lex-number, in_word-ended}
 use Rattle.json.proofs.Printed.Strings.{content-escape, lex-escape, escape_byte_plain}
 use Rattle.json_texts.specs.Standing.{Stands, HasNumber, is_escape_letter}
-use Rattle.json_texts.specs.Compacting.{HasShortest, HasLongEscape, HasCompactString, HasWord}
+use Rattle.json_texts.specs.Compacting.{HasShortest, HasLongEscape, HasCompactString, HasWord, ReadsSame, With}
 use Rattle.json_texts.proofs.Placed.{byte_within, byte_stands, letter_within, plain_bytes, plain_stands, or_seven, escape-more, escape-append, part_is}
 
 -- ---- in a string
@@ -231,21 +231,19 @@ no_part text at = let none : at - at ≡ 0 = omega arith in ap (λ n. take n (dr
 one_part : (text : List ℕ) (at c : ℕ) → get_or text at 0 ≡ suc c → take (at + 1 - at) (drop at text) ≡ suc c ∷ []
 one_part text at c is = let one : at + 1 - at ≡ 1 = omega arith in ap (λ n. take n (drop at text)) one ∙ ap (take 1) (byte_stands text at c is)
 
--- behind what was written stand the bytes of the text from one place to another
-abbrev pub With : List ℕ → List ℕ → ℕ → ℕ → List ℕ
-With out text from end = out ++ take (end - from) (drop from text)
+-- ---- what was written, and bytes behind it
 
-with_more : (out text : List ℕ) (from mid end : ℕ) → from ≤ mid → mid ≤ end → With out text from end ≡ With (With out text from mid) text mid end
+pub with_more : (out text : List ℕ) (from mid end : ℕ) → from ≤ mid → mid ≤ end → With out text from end ≡ With (With out text from mid) text mid end
 with_more out text from mid end first second =
     ap (λ l. out ++ l) (part_more text from mid end first second) ∙ sym (append_assoc out (take (mid - from) (drop from text)) (take (end - mid) (drop mid text)))
 
-with_none : (out text : List ℕ) (at : ℕ) → With out text at at ≡ out
+pub with_none : (out text : List ℕ) (at : ℕ) → With out text at at ≡ out
 with_none out text at = ap (λ l. out ++ l) (no_part text at) ∙ append-nil out
 
-with_one : (out text : List ℕ) (from at c : ℕ) → from ≤ at → get_or text at 0 ≡ suc c → With out text from (at + 1) ≡ With out text from at ++ suc c ∷ []
+pub with_one : (out text : List ℕ) (from at c : ℕ) → from ≤ at → get_or text at 0 ≡ suc c → With out text from (at + 1) ≡ With out text from at ++ suc c ∷ []
 with_one out text from at c below is = with_more out text from at (at + 1) below (omega arith) ∙ ap (λ l. With out text from at ++ l) (one_part text at c is)
 
-with_part : (out text part : List ℕ) (from at end : ℕ) → from ≤ at → at ≤ end → end ≤ length text → Stands text at part end → With out text from end ≡ With out text from at ++ part
+pub with_part : (out text part : List ℕ) (from at end : ℕ) → from ≤ at → at ≤ end → end ≤ length text → Stands text at part end → With out text from end ≡ With out text from at ++ part
 with_part out text part from at end below above within stands =
     with_more out text from at end below above ∙ ap (λ l. With out text from at ++ l) (part_is text part at end stands above within)
 
@@ -328,12 +326,6 @@ null_word text from end stands = record {
 
 -- ---- the whole text, as far as it was read
 
--- What is written is read as the text up to there. Behind a word only what ends it may be written.
-pub record ReadsSame (text written : List ℕ) (at : ℕ) (after_word : Bool) : Type 0 where
-  pub lexemes : List Lexeme
-  pub behind : lex between text ≡ lexemes ++ lex between (drop at text)
-  pub reads : (rest : List ℕ) → (after_word ≡ true → ends_word rest ≡ true) → lex between (written ++ rest) ≡ lexemes ++ lex between rest
-
 no_bytes : (out : List ℕ) → length out ≡ 0 → out ≡ []
 no_bytes [] e = refl
 no_bytes (x ∷ xs) e = absurd (omega (arith, e))
@@ -358,18 +350,6 @@ space_cases x is = elim (or_cases ((x == 32) || (x == 9) || (x == 10)) (x == 13)
     | inl k ↦ elim (or_cases (x == 32) (x == 9) k) [
       | inl e ↦ inl (eqb-true x 32 e)
       | inr e ↦ inr (inl (eqb-true x 9 e))
-    ]
-  ]
-]
-
-pub space_is_ascii : (x : ℕ) → is_space x ≡ true → x < 128
-space_is_ascii x is = elim (space_cases x is) [
-  | inl e ↦ omega arith
-  | inr h ↦ elim h [
-    | inl e ↦ omega arith
-    | inr k ↦ elim k [
-      | inl e ↦ omega arith
-      | inr e ↦ omega arith
     ]
   ]
 ]

@@ -1,4 +1,5 @@
 pub mod Ahead
+mod Blanks
 pub mod FoundNumbers
 pub mod FoundStrings
 pub mod FoundValues
@@ -9,5 +10,5 @@ pub mod NumberItems
 pub mod Placed
 pub mod ReadBack
 pub mod Runs
-mod Spaced
 pub mod Whole
+mod Written

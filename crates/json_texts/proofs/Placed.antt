@@ -3,7 +3,8 @@ use Rattle.std.proofs.Common.{◌≡◌, ℕ, zero, suc, ◌+◌, ◌-◌, ◌<�
 use Rattle.std.proofs.lemmas.Bool.{cases_Bool, eqb-false, not-true, or_parts}
 use Rattle.std.proofs.lemmas.Slice.Eq.{bytes_eq-Decides}
 use Rattle.std.specs.List.{prefix_len, starts_with}
-use Rattle.std.proofs.lemmas.List.{append_cancel_right, drop_all, drop_more, get_or_past, take_all, take_at}
+use Rattle.std.proofs.lemmas.List.{append_cancel_right, drop_all, drop_more, get_or_past, take_at, take-append-le}
+use Rattle.std.proofs.Math.Seq.{take-append-add}
 use Rattle.json.specs.Token.{Token}
 use Rattle.json.specs.Json.{Json, null, boolean, number, string, array, object, Items, no_items, item, Members, no_members, member}
 use Rattle.json.specs.Print.{escape, escape_byte, quoted, print, print_from, ends, IsNumber}
@@ -98,13 +99,6 @@ plain_front : (xs : List ℕ) → escape (take (prefix_len is_plain xs) xs) ≡ 
 plain_front xs =
     let n = prefix_len is_plain xs in
     append_cancel_right (escape (take n xs)) (take n xs) (escape (drop n xs)) (sym (escape-append (take n xs) (drop n xs)) ∙ ap escape (take-append-drop n xs) ∙ escape_run xs)
-
--- a text that is plain throughout
-pub plain_throughout : (text : List ℕ) (stop : ℕ) → stop ≡ 0 + prefix_len is_plain (drop 0 text) → stop ≡ length text → escape text ≡ text
-plain_throughout text stop is whole =
-    let n : prefix_len is_plain text ≡ length text = omega (arith, is, whole) in
-    let all : take (prefix_len is_plain text) text ≡ text = take_all (prefix_len is_plain text) text (omega (arith, n)) in
-    ap escape (sym all) ∙ plain_front text ∙ all
 
 abbrev pub plain_bytes : List ℕ → ℕ → List ℕ
 plain_bytes text at = take (prefix_len is_plain (drop at text)) (drop at text)
@@ -394,3 +388,21 @@ pub value_text : (levels : ℕ) (text : List ℕ) (end : ℕ) (v : HasValue leve
 value_text levels text end v whole =
     let none : drop end text ≡ [] = drop_all end text (omega (arith, whole)) in
     sym (v.stands ∙ ap (λ l. json_text v.value ++ l) none ∙ append-nil (json_text v.value))
+
+-- ---- what is written into room
+
+-- a part of a text, of whose bytes the first count
+pub written_front : (bytes room text part behind : List ℕ) (len count from : ℕ) → room ≡ bytes → len ≤ length bytes → count ≤ 16 → part ≡ take (from + 16 - from) (drop from text) → from + 16 ≤ length text
+    → take (len + count) (take len room ++ (part ++ behind)) ≡ take len bytes ++ take count (drop from text)
+written_front bytes room text part behind len count from same within few is inside =
+    let front = take len bytes in
+    let size : length front ≡ len = (let all = length-take len bytes in omega (arith, all, within)) in
+    let sixteen : from + 16 - from ≡ 16 = omega arith in
+    let behind_from = length-drop from text in
+    let whole = length-take 16 (drop from text) in
+    let part_is_16 : part ≡ take 16 (drop from text) = is ∙ ap (λ n. take n (drop from text)) sixteen in
+    let part_long : count ≤ length part = (let long = ap length part_is_16 in omega (arith, long, whole, behind_from, few, inside)) in
+    let both : take count (take 16 (drop from text)) ≡ take count (drop from text) =
+    sym (take-append-le count (take 16 (drop from text)) (drop 16 (drop from text)) (omega (arith, whole, behind_from, few, inside))) ∙ ap (take count) (take-append-drop 16 (drop from text)) in
+    ap (λ l. take (len + count) (take len l ++ (part ++ behind))) same ∙ ap (λ n. take (n + count) (front ++ (part ++ behind))) (sym size) ∙ take-append-add front (part ++ behind) count
+    ∙ ap (λ l. front ++ l) (take-append-le count part behind part_long ∙ ap (take count) part_is_16 ∙ both)

@@ -1,97 +1,63 @@
-//! Texts that aren't compact, made so without a tree of their values.
+//! Parts of texts that aren't compact, appended in their compact form.
 
-ghost use Rattle.std.specs.Prelude.{◌≡◌, ◌≢◌, ◌≤◌, ◌<◌, ◌+◌, ◌++◌, IfOk, OnOk, IfSome, IsTrue, List, ℕ, length, get_or, drop, slice_range, true};
-ghost use Rattle.std.specs.List.{prefix_len};
-ghost use Rattle.json.specs.Lex.{Lexeme, lex, between, tokens};
+ghost use Rattle.std.specs.Prelude.{◌≡◌, ◌≢◌, ◌≤◌, ◌<◌, ◌+◌, ◌++◌, IfOk, OnOk, IfSome, IsTrue, Some, List, ℕ, length, get_or, drop, slice_range, true, false};
+ghost use Rattle.std.specs.List.{prefix_len, AllByRecursion};
 ghost use Rattle.json.specs.Text.{code_unit};
+ghost use Rattle.json.specs.Lex.{Lexeme, lex, between};
+ghost use Rattle.json.specs.Print.{IsNumber};
 ghost use Rattle.json.specs.Word.{is_space, is_operator, ends_word};
 ghost use Rattle.std.specs.Char.{digit_value, encode_utf8};
-ghost use Rattle.json_texts.specs.Compacting.{HasShortest, HasWord, HasLongEscape, HasCompactString};
+ghost use Rattle.json_texts.specs.Compacting.{HasShortest, HasLongEscape, HasCompactString, With};
+ghost use Rattle.json_texts.specs.Naturals.{with_commas};
 
-use crate::compact::{byte_at, natural_end, number_end, shortest_end, word_end};
-use crate::utf8::utf8_text;
-use json_values::Text;
-use std::alloc::{AllocError, Global};
+use crate::compact::{byte_at, shortest_end};
+use crate::naturals::digits_end_slowly;
+use crate::room::{Room, STORE};
+use std::alloc::AllocError;
 
-/// The same tokens as the text has, without blanks, and each string in its shortest form. There is none where the text has
-/// no blank and no longer escape, has what is no token, or has a rare escape: a half of a surrogate pair, a control byte, a
-/// quote or a backslash in four digits.
-pub fn compacted(alloc: Global, text: &str) -> Result<Option<Text>, AllocError>
-    ensures { IfOk result (λ r. IfSome r (λ compact. tokens compact ≡ tokens text.now)) }
+/// Passes the blanks that begin there, where there are any, once what was kept is appended. Gives where they end, and where
+/// the bytes begin that aren't appended yet.
+#[inline(always)]
+pub(crate) fn past_blanks(
+    text: &[u8],
+    kept: usize,
+    from: usize,
+    out: &mut Room,
+) -> Result<(usize, usize), AllocError>
+    requires { (kept ≤ from) × (from ≤ length text.now) }
+    ensures blanks { IfOk result (λ r. r.0 ≡ from + prefix_len is_space (drop from text.now)) }
+    ensures written { IfOk result (λ r. With out.new text.now r.1 r.0 ≡ With out.old text.now kept from) }
+    ensures bounds { IfOk result (λ r. (r.1 ≤ r.0) × (from ≤ r.0) × (r.0 ≤ length text.now)) }
 {
-    let mut out = Vec::new(alloc);
-    if !append_tokens(text.as_bytes(), &mut out)? {
-        return Ok(None);
+    if !is_blank(byte_at(text, from)) {
+        return Ok((from, kept));
     }
-    // (To look once more takes less than to append no part that isn't a text by itself.)
-    match utf8_text(out.as_slice()) {
-        Some(_) => Ok(Some(Text::from(unsafe { String::from_utf8_unchecked(out) }))),
-        None => Ok(None),
-    }
-}
-
-/// Whether all is appended.
-fn append_tokens(text: &[u8], out: &mut Vec<u8>) -> Result<bool, AllocError>
-    requires { length out.old.items ≡ 0 }
-    ensures { IfOk result (λ done. IsTrue done → tokens out.new.items ≡ tokens text.now) }
-{
-    let mut kept = 0;
-    let mut at = 0;
-    let mut after_word = false;
-    while at < text.len() {
-        let byte = text[at];
-        if is_blank(byte) {
-            append(text, kept, at, out)?;
-            at = blanks_end(text, at + 1);
-            if !after_word {
-                at = append_naturals(text, at, out)?;
-            }
-            kept = at;
-        } else if is_punctuation(byte) {
-            at += 1;
-            after_word = false;
-        } else if after_word {
-            return Ok(false);
-        } else if byte == b'"' {
-            let Some((end, from)) = append_string(text, kept, at + 1, out)? else {
-                return Ok(false);
-            };
-            at = end;
-            kept = from;
-        } else {
-            let Some(end) = token_end(text, at) else {
-                return Ok(false);
-            };
-            at = end;
-            after_word = true;
-        }
-    }
-    if kept == 0 {
-        return Ok(false);
-    }
-    append(text, kept, at, out)?;
-    Ok(true)
+    out.append(text, kept, from)?;
+    let end = blanks_end(text, from + 1);
+    Ok((end, end))
 }
 
 /// Appends the integers without a sign that follow one another in an array, each with its comma, and passes the blanks
-/// behind them. Gives where something else begins.
-#[inline(always)]
-fn append_naturals(text: &[u8], from: usize, out: &mut Vec<u8>) -> Result<usize, AllocError>
+/// behind them. Gives where something else begins, or the text's last bytes.
+#[inline(never)]
+pub(crate) fn append_naturals(text: &[u8], from: usize, out: &mut Room) -> Result<usize, AllocError>
     requires { from ≤ length text.now }
-    ensures same { IfOk result (λ end. (lexemes : List Lexeme) × (added : List ℕ) × (out.new.items ≡ out.old.items ++ added) ×
+    ensures read { IfOk result (λ end. (lexemes : List Lexeme) × (numbers : List (List ℕ)) ×
+        AllByRecursion IsNumber numbers × (out.new ≡ out.old ++ with_commas numbers) ×
         (lex between (drop from text.now) ≡ lexemes ++ lex between (drop end text.now)) ×
-        ((rest : List ℕ) → lex between (added ++ rest) ≡ lexemes ++ lex between rest)) }
+        ((rest : List ℕ) → lex between (with_commas numbers ++ rest) ≡ lexemes ++ lex between rest)) }
     ensures bounds { IfOk result (λ end. (from ≤ end) × (end ≤ length text.now)) }
 {
     let mut at = from;
-    while at < text.len() {
-        let Some(end) = natural_end(text, at) else {
-            return Ok(at);
-        };
-        if byte_at(text, end) != b',' {
+    while text.len() - at >= STORE {
+        let end = digits_end_slowly(text, at);
+        if end == at || byte_at(text, end) != b',' {
             return Ok(at);
         }
-        append_short(text, at, end + 1, out)?;
+        if end != at + 1 && text[at] == b'0' {
+            return Ok(at);
+        }
+        out.append(text, at, end + 1)?;
         at = blanks_end(text, end + 1);
     }
     Ok(at)
@@ -113,16 +79,16 @@ fn blanks_end(text: &[u8], from: usize) -> usize
 
 /// Appends the string whose first quote stands before `from`, but for its last bytes. Gives its end, and where the bytes
 /// begin that aren't appended yet.
-fn append_string(
+pub(crate) fn append_string(
     text: &[u8],
     kept: usize,
     from: usize,
-    out: &mut Vec<u8>,
+    out: &mut Room,
 ) -> Result<Option<(usize, usize)>, AllocError>
     requires { (kept ≤ from) × (from ≤ length text.now) }
     ensures string { IfOk result (λ r. IfSome r (λ ends. HasCompactString text.now from
-        (out.old.items ++ slice_range text.now kept from)
-        (out.new.items ++ slice_range text.now ends.1 ends.0) ends.0)) }
+        (out.old ++ slice_range text.now kept from)
+        (out.new ++ slice_range text.now ends.1 ends.0) ends.0)) }
     ensures bounds { IfOk result (λ r. IfSome r (λ ends. (ends.1 ≤ ends.0) × (from < ends.0) × (ends.0 ≤ length text.now))) }
 {
     let mut kept = kept;
@@ -137,7 +103,7 @@ fn append_string(
         let Some((character, end)) = long_escape(text, stop) else {
             return Ok(None);
         };
-        append(text, kept, stop, out)?;
+        append_kept(text, kept, stop, out)?;
         append_character(character, out)?;
         at = end;
         kept = end;
@@ -145,11 +111,44 @@ fn append_string(
     Ok(None)
 }
 
-fn append_character(character: char, out: &mut Vec<u8>) -> Result<(), AllocError>
-    ensures { OnOk result (out.new.items ≡ out.old.items ++ encode_utf8 character) }
+/// Appends what was kept. Where escapes follow one another that is nothing.
+#[inline(always)]
+fn append_kept(text: &[u8], kept: usize, to: usize, out: &mut Room) -> Result<(), AllocError>
+    requires { (kept ≤ to) × (to ≤ length text.now) }
+    ensures { OnOk result (out.new ≡ out.old ++ slice_range text.now kept to) }
 {
-    let mut bytes = [0; 4];
-    out.extend_from_slice(character.encode_utf8(&mut bytes).as_bytes())
+    if kept == to {
+        return Ok(());
+    }
+    out.append(text, kept, to)
+}
+
+fn append_character(character: char, out: &mut Room) -> Result<(), AllocError>
+    ensures { OnOk result (out.new ≡ out.old ++ encode_utf8 character) }
+{
+    let unit = character as u32;
+    // (as many bytes as one store moves)
+    let mut bytes = [0; STORE];
+    if unit < 0x80 {
+        bytes[0] = unit as u8;
+        return out.append(&bytes, 0, 1);
+    }
+    if unit < 0x800 {
+        bytes[0] = (0xc0 + unit / 64) as u8;
+        bytes[1] = (0x80 + unit % 64) as u8;
+        return out.append(&bytes, 0, 2);
+    }
+    if unit < 0x1_0000 {
+        bytes[0] = (0xe0 + unit / 4096) as u8;
+        bytes[1] = (0x80 + unit / 64 % 64) as u8;
+        bytes[2] = (0x80 + unit % 64) as u8;
+        return out.append(&bytes, 0, 3);
+    }
+    bytes[0] = (0xf0 + unit / 0x4_0000) as u8;
+    bytes[1] = (0x80 + unit / 4096 % 64) as u8;
+    bytes[2] = (0x80 + unit / 64 % 64) as u8;
+    bytes[3] = (0x80 + unit % 64) as u8;
+    out.append(&bytes, 0, 4)
 }
 
 /// As `shortest_end`. Escapes of four digits come in rows, so the next one is looked for right there.
@@ -218,35 +217,19 @@ fn digit(letter: u8) -> u32
     }
 }
 
-/// The end of a number, or of one of the three literals, where it ends as such.
-fn token_end(text: &[u8], from: usize) -> Option<usize>
-    requires { from ≤ length text.now }
-    ensures word { IfSome result (λ end. HasWord text.now from end) }
-    ensures ended { IfSome result (λ end. ends_word (drop end text.now) ≡ true) }
-    ensures bounds { IfSome result (λ end. (from < end) × (end ≤ length text.now)) }
+/// The end of a word, and the same that was kept, where the word ends there.
+#[inline(always)]
+pub(crate) fn ended_word(text: &[u8], kept: usize, end: Option<usize>) -> Option<(usize, usize)>
+    requires { IfSome end (λ e. e ≤ length text.now) }
+    ensures end { IfSome result (λ r. end ≡ Some r.0) }
+    ensures kept { IfSome result (λ r. r.1 ≡ kept) }
+    ensures ended { IfSome result (λ r. ends_word (drop r.0 text.now) ≡ true) }
 {
-    let end = some_word_end(text, from)?;
+    let end = end?;
     if ends_word(text, end) {
-        Some(end)
+        Some((end, kept))
     } else {
         None
-    }
-}
-
-fn some_word_end(text: &[u8], from: usize) -> Option<usize>
-    requires { from ≤ length text.now }
-    ensures word { IfSome result (λ end. HasWord text.now from end) }
-    ensures bounds { IfSome result (λ end. (from < end) × (end ≤ length text.now)) }
-{
-    // (a whole number, of which a text can have many, is passed over without a call)
-    if let Some(end) = natural_end(text, from) {
-        return Some(end);
-    }
-    match byte_at(text, from) {
-        b't' => word_end(text, from, b"true"),
-        b'f' => word_end(text, from, b"false"),
-        b'n' => word_end(text, from, b"null"),
-        _ => number_end(text, from),
     }
 }
 
@@ -266,7 +249,7 @@ fn ends_word(text: &[u8], at: usize) -> bool
 fn is_blank(byte: u8) -> bool
     ensures { result ≡ is_space byte }
 {
-    matches!(byte, b' ' | b'\t' | b'\n' | b'\r')
+    byte == b' ' || byte <= b'\r' && matches!(byte, b'\t' | b'\n' | b'\r')
 }
 
 #[inline(always)]
@@ -274,36 +257,4 @@ fn is_punctuation(byte: u8) -> bool
     ensures { result ≡ is_operator byte }
 {
     matches!(byte, b'{' | b'}' | b'[' | b']' | b':' | b',')
-}
-
-/// Appends this part of the text. What a whole text takes is asked for at once, and only where something is appended.
-#[inline(always)]
-fn append(text: &[u8], from: usize, to: usize, out: &mut Vec<u8>) -> Result<(), AllocError>
-    requires { (from ≤ to) × (to ≤ length text.now) }
-    ensures { OnOk result (out.new.items ≡ out.old.items ++ slice_range text.now from to) }
-{
-    if from == to {
-        return Ok(());
-    }
-    if out.is_empty() {
-        out.reserve(text.len())?;
-    }
-    out.extend_from_slice(&text[from..to])
-}
-
-/// The same of a part that has few bytes most of the time, of which a text can have many: they are moved by one store, with
-/// those behind them.
-#[inline(always)]
-fn append_short(text: &[u8], from: usize, to: usize, out: &mut Vec<u8>) -> Result<(), AllocError>
-    requires { (from ≤ to) × (to ≤ length text.now) }
-    ensures { OnOk result (out.new.items ≡ out.old.items ++ slice_range text.now from to) }
-{
-    let count = to - from;
-    if count > 16 || text.len() - from < 16 {
-        return append(text, from, to, out);
-    }
-    let before = out.len();
-    out.extend_from_slice(&text[from..from + 16])?;
-    out.truncate(before + count);
-    Ok(())
 }

@@ -8,11 +8,13 @@ mod json_text;
 mod naturals;
 mod plain;
 mod reading;
+mod room;
+mod spaced;
 mod utf8;
 
 pub use compact::{name_end, value_end};
-pub use compacting::compacted;
 pub use json_text::{JsonText, MOST_DEPTH_OUT, limits_of_texts_in_figures};
 pub use plain::plain_end;
 pub use reading::{TextReader, read_str, read_value, text_of};
+pub use spaced::{CompactText, Known, compacted};
 pub use utf8::utf8_text;

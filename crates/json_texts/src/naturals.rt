@@ -137,16 +137,17 @@ fn others_of(some: u8x16) -> u64
 }
 
 #[inline(always)]
-fn digits_end_slowly(text: &[u8], from: usize) -> usize
+pub(crate) fn digits_end_slowly(text: &[u8], from: usize) -> usize
     requires { from ≤ length text.now }
     ensures value { result ≡ from + prefix_len is_ascii_digit (drop from text.now) }
     ensures bound { result ≤ length text.now }
 {
-    let mut at = from;
-    while at < text.len() && text[at] >= b'0' && text[at] <= b'9' {
-        at += 1;
+    let tail = &text[from..];
+    let mut count = 0;
+    while count < tail.len() && tail[count] >= b'0' && tail[count] <= b'9' {
+        count += 1;
     }
-    at
+    from + count
 }
 
 #[inline(always)]

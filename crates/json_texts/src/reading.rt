@@ -8,8 +8,8 @@ ghost use Rattle.json_texts.specs.Texts.{json_text, text_value, value_of, compac
 ghost use Rattle.json_texts.specs.declared.json_text.TheConstants.{MOST_DEPTH_OUT};
 
 use crate::compact::is_compact;
-use crate::compacting::compacted;
 use crate::json_text::{JsonText, MOST_DEPTH_OUT};
+use crate::spaced::compacted;
 use crate::utf8::utf8_text;
 use json::{Error, Reader, Scratch, Value};
 use json_values::Text;
@@ -140,17 +140,14 @@ impl TextReader {
     }
 }
 
-/// The compact text of a value whose text is made compact first. There is none where this isn't seen to be one.
+/// The compact text of a value whose text isn't compact. There is none where this isn't seen to be one.
 fn read_compacted(alloc: Global, text: &str) -> Result<Option<JsonText>, AllocError>
     ensures { IfOk result (λ r. IfSome r (λ read. compact_text MOST_DEPTH_OUT text.now ≡ Some read)) }
 {
-    let Some(compact) = compacted(alloc, text)? else {
-        return Ok(None);
-    };
-    if !is_compact(compact.as_str()) {
-        return Ok(None);
+    match compacted(alloc, text, MOST_DEPTH_OUT)? {
+        Some(compact) => Ok(Some(JsonText::of_compact(compact.text))),
+        None => Ok(None),
     }
-    Ok(Some(JsonText::of_compact(compact)))
 }
 
 fn read_text(

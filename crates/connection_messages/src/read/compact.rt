@@ -1,11 +1,13 @@
 //! Contents that are compact objects, read from the texts of their members. What isn't seen to be a call or a result is left
 //! to a reader of tokens.
 
-ghost use Rattle.std.specs.Prelude.{◌≡◌, IfOk, IfSome, IsTrue, false};
+ghost use Rattle.std.specs.Prelude.{◌≡◌, ◌-◌, IfOk, IfSome, IsTrue, false};
 ghost use Rattle.json.specs.Print.{quoted};
+ghost use Rattle.json_texts.specs.Known.{IsKnown};
 ghost use Rattle.connection_messages.specs.Envelope.{HasBatch, cancels_by, GivesId, GivesParams, GivesVersion, GivesCall, GivesEntry, GivesReply, GivesCancel, GivesTarget};
 ghost use Rattle.connection_messages.specs.Params.{is_structured};
 ghost use Rattle.connection_messages.specs.Reading.{unit_of};
+ghost use Rattle.connection_messages.specs.declared.read.unit.TheConstants.{MOST_DEPTH_IN};
 ghost use Rattle.connection_messages.specs.declared.rules.Rules.{Rules};
 
 use super::batch::{batch_within, has_too_many};
@@ -19,22 +21,25 @@ use crate::entry::Entry;
 use crate::reply::Reply;
 use crate::rules::Rules;
 use crate::unit::Unit;
-use json_texts::{compacted, plain_end};
+use json_texts::{Known, compacted, plain_end};
 use json_values::Text;
 use message_ids::Id;
 use std::alloc::{AllocError, Global};
 
-/// The unit of a content that is seen to be one compact call or result, or a batch of such.
+/// The unit of a content that is seen to be one compact call or result, or a batch of such. Where the value of one of
+/// its members is known, its end isn't looked for.
 pub(crate) fn read_compact(
     alloc: Global,
     rules: Rules,
     text: &str,
+    known: Known,
 ) -> Result<Option<Unit>, AllocError>
+    requires { IsKnown (MOST_DEPTH_IN - 1) text.now known }
     ensures { IfOk result (λ u. IfSome u (λ unit. unit ≡ unit_of rules false text.now)) }
 {
     match text.as_bytes().first() {
         Some(b'[') => read_batch(alloc, rules, text),
-        _ => read_single(alloc, rules, text),
+        _ => read_single(alloc, rules, text, known),
     }
 }
 
@@ -46,17 +51,23 @@ pub(crate) fn read_compacted(
 ) -> Result<Option<Unit>, AllocError>
     ensures { IfOk result (λ u. IfSome u (λ unit. unit ≡ unit_of rules false text.now)) }
 {
-    match compacted(alloc, text)? {
-        Some(compact) => read_compact(alloc, rules, compact.as_str()),
+    match compacted(alloc, text, MOST_DEPTH_IN)? {
+        Some(compact) => read_compact(alloc, rules, compact.text.as_str(), compact.longest),
         None => Ok(None),
     }
 }
 
-fn read_single(alloc: Global, rules: Rules, text: &str) -> Result<Option<Unit>, AllocError>
+fn read_single(
+    alloc: Global,
+    rules: Rules,
+    text: &str,
+    known: Known,
+) -> Result<Option<Unit>, AllocError>
+    requires { IsKnown (MOST_DEPTH_IN - 1) text.now known }
     ensures { IfOk result (λ u. IfSome u (λ unit. unit ≡ unit_of rules false text.now)) }
 {
     let mut envelope = Envelope::new();
-    if !envelope.note_whole(text) {
+    if !envelope.note_whole(text, known) {
         return Ok(None);
     }
     match read_envelope(alloc, rules, &envelope)? {
@@ -88,7 +99,7 @@ fn read_entries(alloc: Global, rules: Rules, text: &str) -> Result<Option<Vec<En
     let mut at = 1;
     while at < bytes.len() {
         let mut envelope = Envelope::new();
-        let Some(end) = envelope.note_object(text, at, MOST_DEPTH_IN - 2) else {
+        let Some(end) = envelope.note_object(text, at, MOST_DEPTH_IN - 2, Known::NOTHING) else {
             drop(entries);
             return Ok(None);
         };
@@ -174,7 +185,7 @@ fn read_target(alloc: Global, by: Cancels, params: &str) -> Result<Option<Id>, A
     ensures { IfOk result (λ t. IfSome t (λ target. GivesTarget by params.now target)) }
 {
     let mut members = Envelope::new();
-    let Some(end) = members.note_object(params, 0, MOST_DEPTH_IN - 1) else {
+    let Some(end) = members.note_object(params, 0, MOST_DEPTH_IN - 1, Known::NOTHING) else {
         return Ok(None);
     };
     if end != params.len() {

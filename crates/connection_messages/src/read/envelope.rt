@@ -1,12 +1,15 @@
 //! The members of a compact object that tell what it is.
 
 ghost use Rattle.std.specs.Prelude.{◌≡◌, ◌<◌, ◌≤◌, ◌+◌, ◌-◌, get_or, length, IfSome, IsTrue};
+ghost use Rattle.json_texts.specs.Known.{IsKnown};
+ghost use Rattle.json_texts.specs.Standing.{HasValue};
 ghost use Rattle.connection_messages.specs.Envelope.{HasEnvelope, HasEnvelopeAt, target_part};
 ghost use Rattle.connection_messages.specs.Named.{HasMember, begins, member_of, name_len, no_parts, with_part};
+ghost use Rattle.connection_messages.specs.declared.read.unit.TheConstants.{MOST_DEPTH_IN};
 
 use super::unit::MOST_DEPTH_IN;
 use crate::cancels::Cancels;
-use json_texts::{name_end, value_end};
+use json_texts::{Known, name_end, value_end};
 
 /// The texts of the members that tell what an object is, and of those by which the params of a cancel name a request. Of
 /// members that stand twice it has the last.
@@ -38,11 +41,12 @@ impl<'a> Envelope<'a> {
     }
 
     /// Notes the members of a text that is a compact object, and tells whether it is seen to be one.
-    pub(crate) fn note_whole(&mut self, text: &'a str) -> bool
-        requires { self.old ≡ no_parts }
+    pub(crate) fn note_whole(&mut self, text: &'a str, known: Known) -> bool
+        requires empty { self.old ≡ no_parts }
+        requires known { IsKnown (MOST_DEPTH_IN - 1) text.now known }
         ensures { IsTrue result → HasEnvelope text.now self.new }
     {
-        match self.note_object(text, 0, MOST_DEPTH_IN - 1) {
+        match self.note_object(text, 0, MOST_DEPTH_IN - 1, known) {
             Some(end) => end == text.len(),
             None => false,
         }
@@ -54,8 +58,10 @@ impl<'a> Envelope<'a> {
         text: &'a str,
         start: usize,
         levels: usize,
+        known: Known,
     ) -> Option<usize>
-        requires { self.old ≡ no_parts }
+        requires empty { self.old ≡ no_parts }
+        requires known { IsKnown levels text.now known }
         ensures envelope { IfSome result (λ end. HasEnvelopeAt levels text.now start end self.new) }
         ensures bounds { IfSome result (λ end. (start < end) × (end ≤ length text.now)) }
     {
@@ -66,7 +72,7 @@ impl<'a> Envelope<'a> {
         let mut at = start + 1;
         while at < bytes.len() {
             let (member, from) = name_at(bytes, at)?;
-            let end = value_end(bytes, from, levels)?;
+            let end = part_end(bytes, from, levels, known)?;
             if end == bytes.len() {
                 return None;
             }
@@ -165,6 +171,21 @@ impl Member {
             Member::Other => None,
         }
     }
+}
+
+/// The end of the compact value that begins there. Where it is known from making the text compact, the value isn't
+/// passed once more. No member's value begins at 0, which stands for none known.
+#[inline(always)]
+fn part_end(text: &[u8], from: usize, levels: usize, known: Known) -> Option<usize>
+    requires bounds { (0 < from) × (from ≤ length text.now) }
+    requires known { IsKnown levels text.now known }
+    ensures value { IfSome result (λ end. HasValue levels text.now from end) }
+    ensures bounds { IfSome result (λ end. (from ≤ end) × (end ≤ length text.now)) }
+{
+    if known.start == from {
+        return Some(known.end);
+    }
+    value_end(text, from, levels)
 }
 
 /// The member whose name begins there, and the end of the name and of the colon behind it. A name that an envelope has is

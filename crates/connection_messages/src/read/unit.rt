@@ -14,8 +14,7 @@ use crate::entry::Entry;
 use crate::rules::Rules;
 use crate::unit::Unit;
 use json::{Scratch, Value};
-use json_texts::{read_str, utf8_text};
-use lsp_frames::Frame;
+use json_texts::{Known, read_str, utf8_text};
 use std::alloc::{AllocError, Global};
 use std::marker::Model;
 
@@ -61,17 +60,16 @@ impl UnitReader {
         }
     }
 
-    /// The unit of a frame's content. Every content has one, so it is refused only where it is out of memory; it can be
+    /// The unit of a content. Every content has one, so it is refused only where it is out of memory; it can be
     /// read again then.
-    pub fn read(&mut self, frame: &Frame) -> Result<Unit, AllocError>
-        ensures unit { IfOk result
-            (λ u. u ≡ unit_of self.old frame.now.foreign frame.now.content) }
+    pub fn read(&mut self, foreign: bool, content: &[u8]) -> Result<Unit, AllocError>
+        ensures unit { IfOk result (λ u. u ≡ unit_of self.old foreign content.now) }
         ensures rules { self.new ≡ self.old }
     {
-        if frame.foreign {
+        if foreign {
             return Ok(Unit::Unreadable);
         }
-        self.read_content(frame.content.as_slice())
+        self.read_content(content)
     }
 
     fn read_content(&mut self, content: &[u8]) -> Result<Unit, AllocError>
@@ -81,7 +79,7 @@ impl UnitReader {
         let Some(text) = utf8_text(content) else {
             return Ok(Unit::Unreadable);
         };
-        if let Some(unit) = read_compact(self.alloc, self.rules, text)? {
+        if let Some(unit) = read_compact(self.alloc, self.rules, text, Known::NOTHING)? {
             return Ok(unit);
         }
         match read_compacted(self.alloc, self.rules, text)? {

@@ -3,9 +3,8 @@ use Rattle.std.specs.List.{prefix_len}
 use Rattle.std.specs.Char.{is_ascii_digit}
 use Rattle.json_texts.proofs.naturals.digits_end_slowly.Given as goal
 
-abbrev pub invariant-loop-at : goal.invariant-loop-at
-invariant-loop-at l =
-    (l.from + prefix_len is_ascii_digit (drop l.from l.text) ≡ l.at + prefix_len is_ascii_digit (drop l.at l.text)) × (l.at ≤ length l.text)
+abbrev pub invariant-loop-count : goal.invariant-loop-count
+invariant-loop-count l = (prefix_len is_ascii_digit l.tail ≡ l.count + prefix_len is_ascii_digit (drop l.count l.tail)) × (l.count ≤ length l.tail)
 
-abbrev pub decreases-loop-at : goal.decreases-loop-at
-decreases-loop-at l = length l.text - l.at
+abbrev pub decreases-loop-count : goal.decreases-loop-count
+decreases-loop-count l = length l.tail - l.count

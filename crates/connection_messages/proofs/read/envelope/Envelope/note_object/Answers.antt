@@ -8,7 +8,7 @@ use Rattle.connection_messages.proofs.read.envelope.Envelope.note_object.Goals a
 use Rattle.connection_messages.proofs.read.envelope.Envelope.note_object.Goals.{else-next-ne44-via-then-next-ne44+else-next-ne125, else-next-ne44-via-else-next-ne44}
 
 pub loop-at-init : goal.loop-at-init
-loop-at-init c = (omega arith, nothing, subst (λ e. AreNoted e nothing) (sym c.requires) nothing_noted, nothing_behind c.args.levels c.as_bytes-bytes.result.now (c.args.start + 1))
+loop-at-init c = (omega arith, nothing, subst (λ e. AreNoted e nothing) (sym c.requires.empty) nothing_noted, nothing_behind c.args.levels c.as_bytes-bytes.result.now (c.args.start + 1))
 
 pub range-requires-clause-start_boundary : goal.range-requires-clause-start_boundary
 range-requires-clause-start_boundary c some =
