@@ -65,11 +65,11 @@ impl Connection {
         if self.desk.is_over() {
             return Ok(false);
         }
-        let Some(frame) = self.stream.front() else {
+        let Some(content) = self.stream.front() else {
             return Ok(self.end_if_closed());
         };
         placed_contents_are_the_contents();
-        let unit = self.reader.read(frame)?;
+        let unit = self.reader.read(content.foreign, content.bytes)?;
         let broken = broken_of(
             self.alloc,
             self.settings.tells_broken(),

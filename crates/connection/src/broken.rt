@@ -11,7 +11,6 @@ use connection_history::{Broken, Defect};
 use connection_messages::{Entry, Unit};
 use content_streams::{ContentStream, placed_contents_are_the_contents};
 use json_values::Items;
-use lsp_frames::Frame;
 use std::alloc::{AllocError, Global};
 
 /// So many bytes of a broken content are told.
@@ -52,9 +51,9 @@ fn broken_by(
     placed_contents_are_the_contents();
     let place = stream.front_place();
     match stream.front() {
-        Some(frame) => Ok(Some(Broken {
+        Some(content) => Ok(Some(Broken {
             place: place.unwrap_or(0),
-            start: first_bytes(alloc, frame)?,
+            start: first_bytes(alloc, content.bytes)?,
             defect,
         })),
         None => Ok(None),
@@ -62,10 +61,9 @@ fn broken_by(
 }
 
 /// The first bytes of a content.
-fn first_bytes(alloc: Global, frame: &Frame) -> Result<Items<u8>, AllocError>
-    ensures { IfOk result (λ start. start ≡ take most_shown frame.now.content) }
+fn first_bytes(alloc: Global, content: &[u8]) -> Result<Items<u8>, AllocError>
+    ensures { IfOk result (λ start. start ≡ take most_shown content.now) }
 {
-    let content = frame.content.as_slice();
     let mut start = Vec::new(alloc);
     start.extend_from_slice(&content[..MOST_SHOWN.min(content.len())])?;
     Ok(Items::from(start))

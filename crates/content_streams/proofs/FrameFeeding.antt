@@ -1,6 +1,5 @@
 -- What a piece adds to frames that came, and to their places.
-use Rattle.std.proofs.Common.{◌≡◌, ℕ, ◌+◌, ◌/◌, ◌≤◌, List, [], ◌∷◌, ◌++◌, length, map, refl, ap, sym, ◌∙◌, subst, append_assoc, append-nil, arith, Result, Ok, Err, Vec, Global}
-use Rattle.std.specs.Result.{IfOk, OnOk}
+use Rattle.std.proofs.Common.{◌≡◌, ℕ, ◌+◌, ◌/◌, ◌≤◌, List, [], ◌∷◌, ◌++◌, length, refl, ap, sym, ◌∙◌, subst, append-nil, arith}
 use Rattle.std.proofs.lemmas.List.{map-append, append_cancel_left}
 use Rattle.lsp_frames.specs.Contents.{Standing, Open, Broken, IsContents}
 use Rattle.lsp_frames.specs.Decoding.{Decoding, StandsAfter}

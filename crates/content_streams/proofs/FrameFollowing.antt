@@ -1,6 +1,5 @@
 -- What is followed of frames is where they stand.
-use Rattle.std.proofs.Common.{◌≡◌, ◌≢◌, ℕ, ◌+◌, ◌-◌, ◌*◌, ◌^◌, ◌<◌, ◌≤◌, min, Bool, true, false, cond, leb, List, [], ◌∷◌, ◌++◌, length, map, take, drop, refl, ap, sym, ◌∙◌, subst, length-append, length-take, length-drop, arith}
-use Rattle.std.specs.List.{All}
+use Rattle.std.proofs.Common.{◌≡◌, ℕ, ◌+◌, ◌-◌, ◌^◌, ◌<◌, ◌≤◌, Bool, true, false, leb, List, [], ◌∷◌, ◌++◌, length, drop, refl, ap, sym, ◌∙◌, subst, length-append, length-take, length-drop, arith}
 use Rattle.std.proofs.lemmas.Bool.Decides.{nat_tests}
 use Rattle.std.proofs.Math.Seq.{drop-append-add}
 use Rattle.lsp_frames.specs.Contents.{Standing, Open, Broken, IsContents}
@@ -13,8 +12,8 @@ use Rattle.content_streams.specs.Inner.Heads.{head_bytes, at_start, with_bytes, 
 use Rattle.content_streams.specs.declared.under_way.UnderWay.{UnderWay}
 use Rattle.content_streams.specs.declared.under_way.HeadStage.{HeadStage}
 use Rattle.content_streams.specs.declared.under_way.HeadStage.TheVariants as stages
-use Rattle.content_streams.proofs.HeadSteps.{at_whole, one_followed, noted}
-use Rattle.content_streams.proofs.FrameHeads.{Matches, head_matches, head_bytes_most, head_bytes-append, onward, seen_more, seen_none}
+use Rattle.content_streams.proofs.HeadSteps.{at_whole, one_followed}
+use Rattle.content_streams.proofs.FrameHeads.{Matches, head_matches, head_bytes-append, onward, seen_more, seen_none}
 use Rattle.content_streams.proofs.FramePlaces.{Placed, next_start}
 use Rattle.content_streams.proofs.Peeling.{front-nil}
 

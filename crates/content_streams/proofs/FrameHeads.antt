@@ -1,10 +1,8 @@
 -- Where a head ends: as its stages say, and as it is read.
-use Rattle.std.proofs.Common.{◌≡◌, ◌≢◌, ℕ, suc, ◌+◌, ◌-◌, ◌<◌, ◌≤◌, min, Bool, true, false, cond, eqb, inl, inr, List, [], ◌∷◌, ◌++◌, length, drop, take, refl, ap, sym, ◌∙◌, subst, add-one, arith, length-append, length-take, length-drop}
+use Rattle.std.proofs.Common.{◌≡◌, ◌≢◌, ℕ, ◌+◌, ◌-◌, ◌<◌, ◌≤◌, Bool, true, false, cond, eqb, inl, inr, List, [], ◌∷◌, ◌++◌, length, drop, refl, ap, sym, ◌∙◌, subst, add-one, arith, length-append}
 use Rattle.std.proofs.lemmas.Grind.{common_steps}
-use Rattle.std.proofs.lemmas.List.{drop_all}
 use Rattle.lsp_frames.specs.Lines.{no_fields}
 use Rattle.lsp_frames.specs.Heads.{HeadRead, Reading, Ends, Breaks, Unended, Step, Goes, Completes, Shows, step, head_from, head_at}
-use Rattle.lsp_frames.specs.declared.frame.FrameFault.{FrameFault}
 use Rattle.lsp_frames.proofs.Reading.{after_step, head_from-cons, head_from-nil}
 use Rattle.lsp_frames.proofs.Steps.{step_goes, step_completes}
 use Rattle.lsp_frames.proofs.Saying.{meaning_more, said_end, fields_after_is_line}

@@ -5,9 +5,8 @@ use Rattle.lsp_frames.specs.Frames.{Front, Whole, Faulty, Less, front}
 use Rattle.lsp_frames.specs.declared.frame.Frame.{Frame}
 use Rattle.lsp_frames.specs.declared.frame.FrameFault.{FrameFault}
 use Rattle.lsp_frames.proofs.Fronts.{whole_stays, faulty_stays}
-use Rattle.lsp_frames.proofs.Laws.{contents_keep_a_fault, contents_go_on}
 use Rattle.content_streams.specs.Framed.{place_front, placed, placed_frames, place_of_rest, frames_of, standing_of}
-use Rattle.content_streams.proofs.Peeling.{rest_is_shorter, are_contents, are_frames, is_standing}
+use Rattle.content_streams.proofs.Peeling.{rest_is_shorter, are_contents}
 
 abbrev pub IsNoFrame : Front → Type 0
 IsNoFrame (Whole frame rest) = ⊥

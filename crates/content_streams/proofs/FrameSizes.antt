@@ -1,17 +1,16 @@
 -- How many bytes a frame has at least, and so how many frames a piece completes at most.
-use Rattle.std.proofs.Common.{◌≡◌, ℕ, ◌+◌, ◌-◌, ◌*◌, ◌/◌, ◌<◌, ◌≤◌, min, Option, Some, None, Result, Ok, Err, Bool, true, false, cond, inl, inr, ◌&&◌, List, [], ◌∷◌, ◌++◌, length, map, take, drop, codes, refl, ap, sym, ◌∙◌, subst, length-append, length-take, arith}
+use Rattle.std.proofs.Common.{◌≡◌, ℕ, ◌+◌, ◌*◌, ◌/◌, ◌≤◌, min, Option, Some, None, Ok, true, inl, inr, ◌&&◌, List, [], ◌∷◌, ◌++◌, length, take, drop, codes, refl, ap, sym, ◌∙◌, length-append, length-take, arith}
 use Rattle.std.specs.List.{list_all, position}
 use Rattle.std.specs.Char.{to_ascii_lowercase}
-use Rattle.std.specs.Str.{str_to_ascii_lowercase, bytes_eq}
+use Rattle.std.specs.Str.{str_to_ascii_lowercase}
 use Rattle.std.proofs.lemmas.List.{length-map}
 use Rattle.std.proofs.lemmas.Slice.Eq.{bytes_eq-Decides}
-use Rattle.lsp_frames.specs.Fields.{is_name, is_value_byte, is_colon, is_foreign, is_named, field_at, field_of}
+use Rattle.lsp_frames.specs.Fields.{is_name, is_value_byte, is_colon, is_named, field_at, field_of}
 use Rattle.lsp_frames.specs.Lines.{no_fields, fields_with, fields_after}
 use Rattle.lsp_frames.specs.Heads.{Reading}
 use Rattle.lsp_frames.specs.Frames.{Whole, Less, front, Say, lines_text, head_text, HasForm}
 use Rattle.lsp_frames.specs.Contents.{Standing, IsContents}
 use Rattle.lsp_frames.specs.declared.frame.Frame.{Frame}
-use Rattle.lsp_frames.specs.declared.frame.FrameFault.{FrameFault}
 use Rattle.lsp_frames.proofs.Choices.{choice}
 use Rattle.lsp_frames.proofs.Walks.{length_lines_text-cons}
 use Rattle.lsp_frames.proofs.Laws.{front_is_a_frame}

@@ -1,5 +1,5 @@
 -- The bytes of a head, one after another.
-use Rattle.std.proofs.Common.{◌≡◌, ◌≢◌, ℕ, suc, ◌+◌, ◌-◌, ◌<◌, ◌≤◌, min, List, [], ◌∷◌, ◌++◌, length, take, drop, get_or, ◌^◌, subst, refl, ap, sym, ◌∙◌, add-zero, zero-add, add-one, drop-cons, arith}
+use Rattle.std.proofs.Common.{◌≡◌, ◌≢◌, ℕ, zero, suc, ◌+◌, ◌<◌, ◌≤◌, List, [], ◌∷◌, ◌++◌, length, take, drop, get_or, ◌^◌, subst, refl, ap, sym, ◌∙◌, add-zero, zero-add, add-one, drop-cons, arith}
 use Rattle.std.proofs.lemmas.List.{drop_all, take_all, take_more}
 use Rattle.content_streams.specs.Inner.Heads.{in_front, head_bytes, stage_after, at_start, content_place, behind_content, followed, SmallFrames}
 use Rattle.content_streams.specs.Streams.{capped}
@@ -68,3 +68,9 @@ small_more frames i frame size within is long few small =
 
 pub small_all : (frames : List Frame) (i : ℕ) → length frames ≤ i → SmallFrames (take i frames) → SmallFrames frames
 small_all frames i over small = let P : List Frame → Type 0 = λ fs. SmallFrames fs in subst P (take_all i frames over) small
+
+-- an item, whatever stands where there is none
+pub same_item : (frames : List Frame) (i : ℕ) (one other : Frame) → i < length frames → get_or frames i one ≡ get_or frames i other
+same_item [] i one other within = absurd (omega arith)
+same_item (frame ∷ frames) zero one other within = refl
+same_item (frame ∷ frames) (suc i) one other within = same_item frames i one other (omega arith)

@@ -1,6 +1,6 @@
 -- The places of contents that are held, and more pieces.
-use Rattle.std.proofs.Common.{◌≡◌, ◌≢◌, ℕ, ◌+◌, Option, Some, None, Bool, true, false, cond, List, [], ◌∷◌, ◌++◌, length, drop, map, refl, ap, sym, ◌∙◌, subst, append-nil, append_assoc, length-append}
-use Rattle.std.specs.List.{list_all, take_while, slice_get}
+use Rattle.std.proofs.Common.{◌≡◌, ℕ, ◌+◌, Option, Some, None, Bool, true, false, List, [], ◌∷◌, ◌++◌, length, drop, map, refl, ap, sym, ◌∙◌, subst, append-nil, append_assoc, length-append}
+use Rattle.std.specs.List.{list_all, slice_get}
 use Rattle.std.specs.Option.{IsSome, option_map, option_to_list}
 use Rattle.std.proofs.lemmas.List.{map-append, append_cancel_left}
 use Rattle.std.proofs.lemmas.List.Folds.{concat-append}
@@ -9,7 +9,6 @@ use Rattle.lsp_frames.specs.Contents as frames
 use Rattle.lsp_frames.specs.Contents.{Standing, IsContents}
 use Rattle.lsp_frames.specs.declared.frame.Frame.{Frame}
 use Rattle.lsp_frames.specs.declared.frame.FrameFault.{FrameFault}
-use Rattle.lsp_frames.specs.declared.frame.FrameFault.TheVariants.{TooLarge}
 use Rattle.content_streams.specs.Framed.{frames_of, standing_of, placed_frames, place_of_rest, placed}
 use Rattle.content_streams.specs.Lines.{parts, ended_lines, fits, all_fit, placed_line_contents, line_place}
 use Rattle.content_streams.specs.Streams.{joined, plain, plain_at, capped, capped_places, lines_read, fault_of, contents_of, placed_contents_of, place_left, place_at_fault, fault_place_of, closed_end, end_at}
@@ -18,13 +17,12 @@ use Rattle.content_streams.specs.Inner.Cutters.{framing_of, limit_of, places_by,
 use Rattle.content_streams.specs.declared.cutter.Cutter.{Cutter}
 use Rattle.content_streams.specs.declared.ending.HowEnded.{HowEnded}
 use Rattle.content_streams.specs.declared.ending.HowEnded.TheVariants.{Closed, ReadFailed}
-use Rattle.content_streams.specs.declared.ending.StreamEnd.{StreamEnd}
 use Rattle.content_streams.specs.declared.framing.Framing.{Framing}
 use Rattle.content_streams.specs.declared.framing.Framing.TheVariants.{Frames, Lines, Contents}
 use Rattle.content_streams.specs.declared.places.Places.{Places}
 use Rattle.content_streams.proofs.FramePlaces as found
 use Rattle.content_streams.proofs.FramePlaces.{HasPlaces, MorePlaces, places_of, places_go_on, places_keep}
-use Rattle.content_streams.proofs.Keeping.{broken_at, test_is, Ignores, ignores, at_length, split_first}
+use Rattle.content_streams.proofs.Keeping.{broken_at, test_is, ignores, at_length, split_first}
 use Rattle.content_streams.proofs.LinePlaces.{LaterLines, later_lines, long_place}
 use Rattle.content_streams.proofs.TextPlaces.{taken, taken_behind, taken_long, taken_texts, place_long, placed_texts_are}
 use Rattle.content_streams.proofs.Peeling.{are_contents}

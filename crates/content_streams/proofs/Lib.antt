@@ -16,3 +16,4 @@ pub mod LinePlaces
 pub mod Peeling
 pub mod Streaming
 pub mod GreaterLimits
+pub mod Rows

@@ -1,5 +1,5 @@
 -- Where the contents of lines begin, of a text that comes in parts.
-use Rattle.std.proofs.Common.{◌≡◌, ◌≢◌, ℕ, ◌+◌, Some, None, Option, Bool, true, false, cond, List, [], ◌∷◌, ◌++◌, length, take, drop, map, refl, ap, sym, ◌∙◌, append-nil, append_assoc, length-take, length-append, ◌-◌, ◌<◌, ◌≤◌, subst, arith}
+use Rattle.std.proofs.Common.{◌≡◌, ℕ, ◌+◌, Some, None, Option, Bool, true, false, cond, List, [], ◌∷◌, ◌++◌, length, take, drop, map, refl, ap, sym, ◌∙◌, append-nil, append_assoc, length-take, length-append, ◌-◌, ◌<◌, subst, arith}
 use Rattle.std.specs.List.{position, remove}
 use Rattle.std.specs.Option.{IsSome, OnSome}
 use Rattle.std.proofs.lemmas.List.Edits.{remove-append_right}
@@ -10,7 +10,7 @@ use Rattle.content_streams.specs.Inner.Rows.{BeginsWith}
 use Rattle.content_streams.specs.declared.ending.HowEnded.{HowEnded}
 use Rattle.content_streams.specs.declared.ending.HowEnded.TheVariants.{Closed, ReadFailed}
 use Rattle.content_streams.proofs.Fitting.{kept, all_fit_behind, all_fit-no}
-use Rattle.content_streams.proofs.LineTexts.{parts-some, parts-are, parts_behind, lead, standing_is, ended_fit, ended_behind, ended_lead, no_lf, first_line, ended_cons, stays_long, IsLong, AnEnded, TheLast, is_long}
+use Rattle.content_streams.proofs.LineTexts.{parts-some, parts-are, parts_behind, lead, standing_is, ended_fit, ended_behind, ended_lead, no_lf, first_line, ended_cons, stays_long, AnEnded, TheLast, is_long}
 use Rattle.content_streams.proofs.LineSteps.{last_kept}
 use Rattle.content_streams.proofs.TextPlaces.{kept_place, no_places, places_fit, places_over, places_behind, places_long, line_place_none, line_place_fits, line_place_over, line_place_on, line_place_long, lines_behind, lines_long}
 

@@ -1,5 +1,5 @@
 -- What a cutter knows of the pieces, and more pieces.
-use Rattle.std.proofs.Common.{◌≡◌, ◌≢◌, ℕ, ◌+◌, Some, None, Result, Ok, Err, Vec, Global, Bool, true, false, cond, not, ◌&&◌, List, [], ◌∷◌, ◌++◌, length, map, append_assoc, refl, ap, sym, ◌∙◌, subst, append-nil, arith}
+use Rattle.std.proofs.Common.{◌≡◌, ◌≢◌, ℕ, ◌+◌, Some, None, Result, Ok, Err, Bool, true, false, cond, not, ◌&&◌, List, [], ◌∷◌, ◌++◌, length, map, append_assoc, refl, ap, sym, ◌∙◌, subst, append-nil, arith}
 use Rattle.std.specs.Result.{IfOk, OnOk}
 use Rattle.std.specs.List.{list_all, take_while}
 use Rattle.std.proofs.lemmas.List.{map-append}
@@ -7,6 +7,8 @@ use Rattle.std.proofs.lemmas.List.Folds.{concat-append}
 use Rattle.lsp_frames.specs.Contents as frames
 use Rattle.lsp_frames.specs.Contents.{Standing, IsContents}
 use Rattle.lsp_frames.specs.Decoding.{Decoding, StandsAfter}
+use Rattle.lsp_frames.specs.Feeds.{fed_frames}
+use Rattle.lsp_frames.specs.declared.fed.Fed.{Fed}
 use Rattle.lsp_frames.specs.declared.frame.Frame.{Frame}
 use Rattle.lsp_frames.specs.declared.frame.FrameFault.{FrameFault}
 use Rattle.lsp_frames.specs.declared.frame.FrameFault.TheVariants.{BadHead, BadLength, TwoLengths, TooLarge, NoLength, HeadTooLong, Truncated, LongLength}
@@ -14,10 +16,10 @@ use Rattle.lsp_frames.proofs.Laws.{no_bytes_show_an_end}
 use Rattle.content_streams.specs.Framed.{frames_of, standing_of, placed_frames}
 use Rattle.content_streams.specs.Lines.{parts, ended_lines, fits, all_fit, line_contents, place_behind, placed_line_contents, line_place}
 use Rattle.content_streams.specs.Streams.{joined, plain, plain_at, capped, capped_places, fault_left}
-use Rattle.content_streams.specs.Inner.Cutting.{LineCutting, LineStanding, Within, Over, line_fault, text_standing, last_line, ended_contents, ended_places, places_from, last_contents}
+use Rattle.content_streams.specs.Inner.Cutting.{LineCutting, Within, Over, line_fault, text_standing, last_line, ended_contents, ended_places, places_from, last_contents}
 use Rattle.content_streams.specs.Inner.Cutters.{FramesStand, LinesStartAt, Stands, Tells, fault_at_end}
 use Rattle.content_streams.specs.declared.content_cutter.ContentCutter.{ContentCutter}
-use Rattle.content_streams.specs.declared.cutter.Cutter.TheVariants.{Frames, Lines, Contents}
+use Rattle.content_streams.specs.declared.cutter.Cutter.TheVariants.{Lines, Contents}
 use Rattle.content_streams.specs.declared.frames.FrameCutter.{FrameCutter}
 use Rattle.content_streams.proofs.Fitting.{all_first, all_append}
 use Rattle.content_streams.proofs.LineTexts.{contents_to_end, long_parts}
@@ -50,14 +52,14 @@ fault_at limit bytes = fault_known (standing_of limit bytes) (λ fault is.
 pub stands_frames : (decoder : Decoding) (bytes : List ℕ) (given : List Frame) → StandsAfter decoder bytes given → given ≡ frames_of decoder.limit bytes
 stands_frames decoder bytes given stands = are_frames decoder.limit bytes given stands.0 stands.1
 
-pub frames_given : {E : Type 0} (result : Result (Vec Frame Global) E) (cutter : FrameCutter) (piece : List ℕ)
-    → IfOk result (λ given. (bytes : List ℕ) → FramesStand cutter bytes → frames_of cutter.decoder.limit (bytes ++ piece) ≡ frames_of cutter.decoder.limit bytes ++ given.items)
+pub frames_given : {E : Type 0} (result : Result Fed E) (cutter : FrameCutter) (piece : List ℕ)
+    → IfOk result (λ given. (bytes : List ℕ) → FramesStand cutter bytes → frames_of cutter.decoder.limit (bytes ++ piece) ≡ frames_of cutter.decoder.limit bytes ++ fed_frames given)
     → IfOk result (λ given. (pieces : List (List ℕ)) → FramesStand cutter (joined pieces)
-    → frames_of cutter.decoder.limit (joined (pieces ++ piece ∷ [])) ≡ frames_of cutter.decoder.limit (joined pieces) ++ given.items)
+    → frames_of cutter.decoder.limit (joined (pieces ++ piece ∷ [])) ≡ frames_of cutter.decoder.limit (joined pieces) ++ fed_frames given)
 frames_given (Err e) cutter piece fed = tt
 frames_given (Ok given) cutter piece fed = λ pieces stands. ap (frames_of cutter.decoder.limit) (joined_more pieces piece) ∙ fed (joined pieces) stands
 
-pub frames_placed : {E : Type 0} (result : Result (Vec Frame Global) E) (cutter : FrameCutter) (piece old new : List ℕ)
+pub frames_placed : {E : Type 0} (result : Result Fed E) (cutter : FrameCutter) (piece old new : List ℕ)
     → OnOk result ((bytes passed : List ℕ) → FramesStand cutter bytes → capped_places (placed_frames cutter.decoder.limit bytes) ≡ passed ++ old
     → capped_places (placed_frames cutter.decoder.limit (bytes ++ piece)) ≡ passed ++ new)
     → OnOk result ((pieces : List (List ℕ)) (passed : List ℕ) → FramesStand cutter (joined pieces) → capped_places (placed_frames cutter.decoder.limit (joined pieces)) ≡ passed ++ old
@@ -66,7 +68,7 @@ frames_placed (Err e) cutter piece old new fed = tt
 frames_placed (Ok given) cutter piece old new fed = λ pieces passed stands is.
     ap (λ bytes. capped_places (placed_frames cutter.decoder.limit bytes)) (joined_more pieces piece) ∙ fed (joined pieces) passed stands is
 
-pub frames_stand : {E : Type 0} (result : Result (Vec Frame Global) E) (cutter next : FrameCutter) (piece : List ℕ)
+pub frames_stand : {E : Type 0} (result : Result Fed E) (cutter next : FrameCutter) (piece : List ℕ)
     → OnOk result ((bytes : List ℕ) → FramesStand cutter bytes → FramesStand next (bytes ++ piece))
     → OnOk result ((pieces : List (List ℕ)) → FramesStand cutter (joined pieces) → FramesStand next (joined (pieces ++ piece ∷ [])))
 frames_stand (Err e) cutter next piece fed = tt
@@ -108,10 +110,10 @@ not_not : (t : Bool) → false ≡ not t → t ≡ true
 not_not true e = refl
 not_not false e = cc
 
-pub contents_given : {E : Type 0} (result : Result (Vec Frame Global) E) (cutter : ContentCutter) (piece : List ℕ) → cutter.is_over ≡ false
-    → IfOk result (λ given. given.items ≡ map plain (take_while (fits cutter.limit) (piece ∷ [])))
+pub contents_given : {E : Type 0} (result : Result Fed E) (cutter : ContentCutter) (piece : List ℕ) → cutter.is_over ≡ false
+    → IfOk result (λ given. fed_frames given ≡ map plain (take_while (fits cutter.limit) (piece ∷ [])))
     → IfOk result (λ given. (pieces : List (List ℕ)) → Tells (Contents cutter) pieces
-    → map plain (take_while (fits cutter.limit) (pieces ++ piece ∷ [])) ≡ map plain (take_while (fits cutter.limit) pieces) ++ given.items)
+    → map plain (take_while (fits cutter.limit) (pieces ++ piece ∷ [])) ≡ map plain (take_while (fits cutter.limit) pieces) ++ fed_frames given)
 contents_given (Err e) cutter piece inside fed = tt
 contents_given (Ok given) cutter piece inside fed = λ pieces stands.
     let limit = cutter.limit in
@@ -130,7 +132,7 @@ one_place limit start piece = ap (λ xs. capped_places (map plain_at xs)) (taken
     go true = refl
     go false = refl
 
-pub contents_placed : {E : Type 0} (result : Result (Vec Frame Global) E) (cutter : ContentCutter) (piece old new : List ℕ) → cutter.is_over ≡ false
+pub contents_placed : {E : Type 0} (result : Result Fed E) (cutter : ContentCutter) (piece old new : List ℕ) → cutter.is_over ≡ false
     → OnOk result (new ≡ old ++ cond (fits cutter.limit piece) (cutter.start ∷ []) [])
     → OnOk result ((pieces : List (List ℕ)) (passed : List ℕ) → Tells (Contents cutter) pieces → content_places cutter.limit 0 pieces ≡ passed ++ old → content_places cutter.limit 0 (pieces ++ piece ∷ []) ≡ passed ++ new)
 contents_placed (Err e) cutter piece old new inside fed = tt
@@ -159,7 +161,7 @@ next_place limit start place piece is = go (fits limit piece)
     go true = omega (arith, is)
     go false = is
 
-pub contents_stand : {E : Type 0} (result : Result (Vec Frame Global) E) (cutter next : ContentCutter) (piece : List ℕ) → cutter.is_over ≡ false
+pub contents_stand : {E : Type 0} (result : Result Fed E) (cutter next : ContentCutter) (piece : List ℕ) → cutter.is_over ≡ false
     → OnOk result (next ≡ record cutter { is_over = not (fits cutter.limit piece); start = cond (fits cutter.limit piece) (capped (cutter.start + length piece)) cutter.start })
     → OnOk result ((pieces : List (List ℕ)) → Tells (Contents cutter) pieces → Tells (Contents next) (pieces ++ piece ∷ []))
 contents_stand (Err e) cutter next piece inside fed = tt
@@ -173,13 +175,13 @@ contents_stand (Ok given) cutter next piece inside fed = λ pieces stands.
       next_place limit cutter.start place piece stands.1 ∙ ap capped (sym (place_on (fits limit) 0 0 pieces (piece ∷ []) all)),
     )
 
-pub lines_given : {E : Type 0} (result : Result (Vec Frame Global) E) (cutter : LineCutting) (piece : List ℕ)
-    → IfOk result (λ given. (bytes : List ℕ) → cutter.standing ≡ text_standing cutter.limit bytes → ended_contents cutter.limit (bytes ++ piece) ≡ ended_contents cutter.limit bytes ++ given.items)
-    → IfOk result (λ given. (pieces : List (List ℕ)) → Stands (Lines cutter) pieces → ended_contents cutter.limit (joined (pieces ++ piece ∷ [])) ≡ ended_contents cutter.limit (joined pieces) ++ given.items)
+pub lines_given : {E : Type 0} (result : Result Fed E) (cutter : LineCutting) (piece : List ℕ)
+    → IfOk result (λ given. (bytes : List ℕ) → cutter.standing ≡ text_standing cutter.limit bytes → ended_contents cutter.limit (bytes ++ piece) ≡ ended_contents cutter.limit bytes ++ fed_frames given)
+    → IfOk result (λ given. (pieces : List (List ℕ)) → Stands (Lines cutter) pieces → ended_contents cutter.limit (joined (pieces ++ piece ∷ [])) ≡ ended_contents cutter.limit (joined pieces) ++ fed_frames given)
 lines_given (Err e) cutter piece fed = tt
 lines_given (Ok given) cutter piece fed = λ pieces stands. ap (ended_contents cutter.limit) (joined_more pieces piece) ∙ fed (joined pieces) stands.0
 
-pub lines_placed : {E : Type 0} (result : Result (Vec Frame Global) E) (cutter : LineCutting) (piece old new : List ℕ)
+pub lines_placed : {E : Type 0} (result : Result Fed E) (cutter : LineCutting) (piece old new : List ℕ)
     → OnOk result ((bytes passed : List ℕ) → cutter.standing ≡ text_standing cutter.limit bytes → LinesStartAt cutter bytes → ended_places cutter.limit bytes ≡ passed ++ old → ended_places cutter.limit (bytes ++ piece) ≡ passed ++ new)
     → OnOk result ((pieces : List (List ℕ)) (passed : List ℕ) → Stands (Lines cutter) pieces → line_places cutter.limit (ended_lines (joined pieces)) ≡ passed ++ old
     → line_places cutter.limit (ended_lines (joined (pieces ++ piece ∷ []))) ≡ passed ++ new)
@@ -189,7 +191,7 @@ lines_placed (Ok given) cutter piece old new fed = λ pieces passed stands is.
     ∙ ap (ended_places cutter.limit) (joined_more pieces piece)
     ∙ fed (joined pieces) passed stands.0 stands.1 (sym (line_places_are cutter.limit (ended_lines (joined pieces))) ∙ is)
 
-pub lines_stand : {E : Type 0} (result : Result (Vec Frame Global) E) (cutter next : LineCutting) (piece : List ℕ) → next.limit ≡ cutter.limit
+pub lines_stand : {E : Type 0} (result : Result Fed E) (cutter next : LineCutting) (piece : List ℕ) → next.limit ≡ cutter.limit
     → OnOk result ((bytes : List ℕ) → cutter.standing ≡ text_standing cutter.limit bytes → next.standing ≡ text_standing cutter.limit (bytes ++ piece))
     → OnOk result ((bytes : List ℕ) → cutter.standing ≡ text_standing cutter.limit bytes → LinesStartAt cutter bytes → LinesStartAt next (bytes ++ piece))
     → OnOk result ((pieces : List (List ℕ)) → Stands (Lines cutter) pieces → Stands (Lines next) (pieces ++ piece ∷ []))

@@ -1,11 +1,10 @@
 -- The places of texts that follow one another, and of the contents of lines.
-use Rattle.std.proofs.Common.{◌≡◌, ◌≢◌, ℕ, ◌+◌, ◌-◌, Some, None, Bool, true, false, cond, not, ◌&&◌, List, [], ◌∷◌, ◌++◌, length, map, refl, ap, sym, ◌∙◌, subst, append_assoc, append-nil, arith}
+use Rattle.std.proofs.Common.{◌≡◌, ℕ, ◌+◌, Bool, true, false, cond, not, ◌&&◌, List, [], ◌∷◌, ◌++◌, length, map, refl, ap, sym, ◌∙◌, subst}
 use Rattle.std.specs.List.{list_all, take_while, filter}
 use Rattle.std.proofs.lemmas.List.{map-append}
 use Rattle.std.proofs.lemmas.List.Elements.{filter-append}
-use Rattle.lsp_frames.specs.declared.frame.Frame.{Frame}
 use Rattle.content_streams.specs.Lines.{is_blank, fits, without_cr, all_fit, line_contents, placed_texts, place_behind, placed_line_contents, line_place}
-use Rattle.content_streams.specs.Streams.{capped, capped_places, plain, plain_at}
+use Rattle.content_streams.specs.Streams.{capped}
 use Rattle.content_streams.specs.Inner.Cutting.{places_from}
 use Rattle.content_streams.proofs.Fitting.{take_while-cons, first_fits, first_is_too_long, kept}
 

@@ -1,10 +1,11 @@
 //! Contents that come by themselves.
 
 ghost use Rattle.std.specs.Prelude.{◌≡◌, ◌+◌, ◌++◌, ◌∷◌, [], OnOk, OnErr, IfOk, length, map, take_while, not, false, if◌then◌else◌};
+ghost use Rattle.lsp_frames.specs.Feeds.{fed_frames};
 ghost use Rattle.content_streams.specs.Lines.{fits};
 ghost use Rattle.content_streams.specs.Streams.{capped, plain};
 
-use lsp_frames::Frame;
+use lsp_frames::{Fed, Frame, Frames};
 use std::alloc::{AllocError, Global};
 use std::collections::VecDeque;
 
@@ -25,10 +26,12 @@ impl ContentCutter {
         &mut self,
         piece: &[u8],
         places: &mut VecDeque<u64>,
-    ) -> Result<Vec<Frame>, AllocError>
-        requires { self.old.is_over ≡ false }
+        room: Frames,
+    ) -> Result<Fed, AllocError>
+        requires over { self.old.is_over ≡ false }
+        requires room { room ≡ [] }
         ensures given { IfOk result (λ given.
-            given.items ≡ map plain (take_while (fits self.old.limit) (piece.now ∷ []))) }
+            fed_frames given ≡ map plain (take_while (fits self.old.limit) (piece.now ∷ []))) }
         ensures places { OnOk result (places.new.items ≡ places.old.items
             ++ (if fits self.old.limit piece.now then self.old.start ∷ [] else [])) }
         ensures left { OnOk result (self.new ≡ record self.old {
@@ -39,18 +42,21 @@ impl ContentCutter {
         ensures err { OnErr result (self.new ≡ self.old) }
         ensures err_places { OnErr result (places.new.items ≡ places.old.items) }
     {
-        let mut contents = Vec::new(self.alloc);
+        let others = room;
         if piece.len() > self.limit as usize {
             self.is_over = true;
-            return Ok(contents);
+            return Ok(Fed {
+                first: None,
+                others,
+            });
         }
         let content = Vec::from_slice(self.alloc, piece)?.into();
-        contents.push(Frame {
-            content,
-            foreign: false,
-        })?;
         places.push_back(self.start)?;
         self.start = self.start.saturating_add(piece.len() as u64);
-        Ok(contents)
+        let first = Some(Frame {
+            content,
+            foreign: false,
+        });
+        Ok(Fed { first, others })
     }
 }

@@ -1,6 +1,7 @@
 //! The input side of a connection: from pieces to contents.
 
-ghost use Rattle.std.specs.Prelude.{◌≡◌, ◌≤◌, ◌+◌, ◌++◌, ◌∷◌, [], Some, None, IsSome, IsOk, IsTrue, OnOk, OnErr, is_some, option_copied, option_map};
+ghost use Rattle.std.specs.Prelude.{◌≡◌, ◌≤◌, ◌+◌, ◌++◌, ◌∷◌, [], Some, None, IsSome, IsOk, IsTrue, OnOk, OnErr, is_some, option_map};
+ghost use Rattle.lsp_frames.specs.Gathered.{frame_of_content};
 ghost use Rattle.lsp_frames.specs.declared.limits.TheConstants.{LONGEST_CONTENT as MOST_BYTES};
 
 use crate::cutter::Cutter;
@@ -9,7 +10,7 @@ use crate::framing::Framing;
 use crate::places::Places;
 use crate::row::Row;
 use ghost_log::GhostLog;
-use lsp_frames::Frame;
+use lsp_frames::Content;
 use std::alloc::{AllocError, Global};
 use std::marker::Model;
 
@@ -76,8 +77,8 @@ impl ContentStream {
         ensures ignored { IsSome (close_of self.old) → IsOk result }
     {
         if self.cutter.fault().is_none() {
-            self.row.make_room()?;
-            let contents = self.cutter.feed(piece, &mut self.places.waiting)?;
+            let room = self.row.make_room()?;
+            let contents = self.cutter.feed(piece, &mut self.places.waiting, room)?;
             self.row.add(contents);
         }
         self.log = self.log.with_text(piece);
@@ -111,8 +112,8 @@ impl ContentStream {
     }
 
     /// The next content: the first that wasn't taken.
-    pub fn front(&self) -> Option<&Frame>
-        ensures { option_copied result ≡ next_content self.now }
+    pub fn front(&self) -> Option<Content<'_>>
+        ensures { option_map frame_of_content result ≡ next_content self.now }
     {
         self.row.front()
     }

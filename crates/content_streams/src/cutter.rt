@@ -2,6 +2,7 @@
 
 ghost use Rattle.std.specs.Prelude.{◌≡◌, ◌≤◌, ◌++◌, ◌∷◌, [], ℕ, List, Some, None, map, OnOk, OnErr, IfOk, if◌then◌else◌};
 ghost use Rattle.std.specs.Option.{option_to_list};
+ghost use Rattle.lsp_frames.specs.Feeds.{fed_frames};
 ghost use Rattle.lsp_frames.specs.declared.limits.TheConstants.{LONGEST_CONTENT as MOST_BYTES};
 ghost use Rattle.content_streams.specs.Streams.{capped, closed_end, fault_of, place_left};
 ghost use Rattle.content_streams.specs.Inner.Cutters.{framing_of, limit_of, MayFeed, Stands, Tells, places_by, read_by};
@@ -11,7 +12,7 @@ use crate::ending::{HowEnded, StreamEnd};
 use crate::frames::{FrameCutter, fault_at_end, stream_end};
 use crate::framing::Framing;
 use crate::line_cutter::LineCutter;
-use lsp_frames::{Frame, FrameFault};
+use lsp_frames::{Fed, Frame, FrameFault, Frames};
 use std::alloc::{AllocError, Global};
 use std::collections::VecDeque;
 
@@ -56,19 +57,21 @@ impl Cutter {
         }
     }
 
-    /// The contents that this piece completes, and at the end of `places` where they begin.
+    /// The contents that this piece completes, in this room, and at the end of `places` where they begin.
     pub(crate) fn feed(
         &mut self,
         piece: &[u8],
         places: &mut VecDeque<u64>,
-    ) -> Result<Vec<Frame>, AllocError>
+        room: Frames,
+    ) -> Result<Fed, AllocError>
+        requires room { room ≡ [] }
         requires may { MayFeed self.old }
         requires known { (pieces : List (List ℕ)) × Stands self.old pieces }
         ensures framing { framing_of self.new ≡ framing_of self.old }
         ensures limit { limit_of self.new ≡ limit_of self.old }
         ensures given { IfOk result (λ given. (pieces : List (List ℕ)) → Stands self.old pieces →
             read_by self.old (pieces ++ piece.now ∷ []) None
-            ≡ read_by self.old pieces None ++ given.items) }
+            ≡ read_by self.old pieces None ++ fed_frames given) }
         ensures places { OnOk result ((pieces : List (List ℕ)) (passed : List ℕ) →
             Stands self.old pieces →
             places_by self.old pieces None ≡ passed ++ places.old.items →
@@ -79,9 +82,9 @@ impl Cutter {
         ensures err_places { OnErr result (places.new.items ≡ places.old.items) }
     {
         match self {
-            Cutter::Frames(cutter) => cutter.feed(piece, places),
-            Cutter::Lines(cutter) => cutter.feed(piece, places),
-            Cutter::Contents(cutter) => cutter.feed(piece, places),
+            Cutter::Frames(cutter) => cutter.feed(piece, places, room),
+            Cutter::Lines(cutter) => cutter.feed(piece, places, room),
+            Cutter::Contents(cutter) => cutter.feed(piece, places, room),
         }
     }
 

@@ -1,8 +1,7 @@
 //! Frames.
 
 ghost use Rattle.std.specs.Prelude.{◌≡◌, ◌≤◌, ◌++◌, [], ℕ, List, OnOk, OnErr, IfOk};
-ghost use Rattle.lsp_frames.specs.Decoding.{StandsAfter};
-ghost use Rattle.lsp_frames.specs.declared.frame.Frame.{Frame};
+ghost use Rattle.lsp_frames.specs.Feeds.{fed_frames};
 ghost use Rattle.lsp_frames.specs.declared.limits.TheConstants.{LONGEST_CONTENT as MOST_BYTES};
 ghost use Rattle.content_streams.specs.Framed.{frames_of, placed_frames};
 ghost use Rattle.content_streams.specs.Inner.Cutters.{FramesStand, fault_at_end};
@@ -10,7 +9,7 @@ ghost use Rattle.content_streams.specs.Streams.{capped_places, stream_end};
 
 use crate::ending::StreamEnd;
 use crate::under_way::UnderWay;
-use lsp_frames::{Decoder, End, FeedFault, Frame, FrameFault};
+use lsp_frames::{Decoder, End, Fed, FrameFault, Frames};
 use std::alloc::{AllocError, Global};
 use std::collections::VecDeque;
 
@@ -45,12 +44,14 @@ impl FrameCutter {
         &mut self,
         piece: &[u8],
         places: &mut VecDeque<u64>,
-    ) -> Result<Vec<Frame>, AllocError>
-        requires { (bytes : List ℕ) × FramesStand self.old bytes }
+        room: Frames,
+    ) -> Result<Fed, AllocError>
+        requires known { (bytes : List ℕ) × FramesStand self.old bytes }
+        requires room { room ≡ [] }
         ensures limit { self.new.decoder.limit ≡ self.old.decoder.limit }
         ensures given { IfOk result (λ given. (bytes : List ℕ) → FramesStand self.old bytes →
             frames_of self.old.decoder.limit (bytes ++ piece.now)
-            ≡ frames_of self.old.decoder.limit bytes ++ given.items) }
+            ≡ frames_of self.old.decoder.limit bytes ++ fed_frames given) }
         ensures places { OnOk result ((bytes passed : List ℕ) → FramesStand self.old bytes →
             capped_places (placed_frames self.old.decoder.limit bytes)
             ≡ passed ++ places.old.items →
@@ -62,8 +63,8 @@ impl FrameCutter {
         ensures err_places { OnErr result (places.new.items ≡ places.old.items) }
     {
         places.reserve(piece.len() / FRAME_BYTES + 1)?;
-        let frames = feed_frames(&mut self.decoder, piece)?;
-        self.under_way = self.under_way.follow(piece, frames.as_slice(), places);
+        let frames = self.decoder.feed_together(piece, room)?;
+        self.under_way = self.under_way.follow(piece, &frames, places);
         give_room_back(places);
         Ok(frames)
     }
@@ -76,21 +77,6 @@ fn give_room_back(places: &mut VecDeque<u64>)
     let room = places.capacity();
     if room > KEPT_PLACES && room / 4 > places.len() {
         places.shrink_to((2 * places.len()).max(KEPT_PLACES));
-    }
-}
-
-/// The contents of the frames that this piece completes. A fault is told by the decoder's end.
-fn feed_frames(decoder: &mut Decoder, piece: &[u8]) -> Result<Vec<Frame>, AllocError>
-    ensures limit { decoder.new.limit ≡ decoder.old.limit }
-    ensures stands { (bytes : List ℕ) (frames : List Frame) →
-        StandsAfter decoder.old bytes frames →
-        IfOk result (λ given. StandsAfter decoder.new (bytes ++ piece.now) (frames ++ given.items)) }
-    ensures err { OnErr result (decoder.new ≡ decoder.old) }
-{
-    match decoder.feed(piece) {
-        Ok(frames) => Ok(frames),
-        Err(FeedFault::Ended(_, frames)) => Ok(frames.into_vec()),
-        Err(FeedFault::Memory) => Err(AllocError),
     }
 }
 

@@ -2,6 +2,7 @@
 
 ghost use Rattle.std.specs.Prelude.{◌≡◌, ◌+◌, ◌++◌, ◌∷◌, [], ℕ, List, true, false, if◌then◌else◌, OnOk, OnErr, IfOk, map, position};
 ghost use Rattle.std.specs.Option.{option_to_list};
+ghost use Rattle.lsp_frames.specs.Feeds.{fed_frames};
 ghost use Rattle.content_streams.specs.Lines.{is_lf, ends_in_cr, without_cr, is_blank, fits, line_contents, line_place, ended_lines};
 ghost use Rattle.content_streams.specs.Streams.{capped, plain};
 ghost use Rattle.content_streams.specs.Inner.Cutting.{Within, Over, IsWithin, ended_contents, ended_places, places_from, grown, last_contents, text_standing, line_fault};
@@ -9,8 +10,7 @@ ghost use Rattle.content_streams.specs.Inner.Cutters.{LinesStartAt};
 ghost use Rattle.content_streams.specs.Inner.Rows.{BeginsWith};
 
 use crate::line_feed::place_of_lf;
-use json_values::Items;
-use lsp_frames::Frame;
+use lsp_frames::{Fed, Frame, Frames};
 use std::alloc::{AllocError, Global};
 use std::collections::VecDeque;
 use std::marker::Model;
@@ -91,13 +91,15 @@ impl LineCutter {
         &mut self,
         piece: &[u8],
         places: &mut VecDeque<u64>,
-    ) -> Result<Vec<Frame>, AllocError>
-        requires { IsWithin self.old.standing }
+        room: Frames,
+    ) -> Result<Fed, AllocError>
+        requires within { IsWithin self.old.standing }
+        requires room { room ≡ [] }
         ensures limit { self.new.limit ≡ self.old.limit }
         ensures given { IfOk result (λ given. (bytes : List ℕ) →
             self.old.standing ≡ text_standing self.old.limit bytes →
             ended_contents self.old.limit (bytes ++ piece.now)
-            ≡ ended_contents self.old.limit bytes ++ given.items) }
+            ≡ ended_contents self.old.limit bytes ++ fed_frames given) }
         ensures places { OnOk result ((bytes passed : List ℕ) →
             self.old.standing ≡ text_standing self.old.limit bytes → LinesStartAt self.old bytes →
             ended_places self.old.limit bytes ≡ passed ++ places.old.items →
@@ -112,7 +114,7 @@ impl LineCutter {
         ensures err_places { OnErr result (places.new.items ≡ places.old.items) }
     {
         let had = places.len();
-        match self.take(piece, places) {
+        match self.take(piece, places, room) {
             Ok(contents) => Ok(contents),
             Err(error) => {
                 places.truncate(had);
@@ -122,13 +124,19 @@ impl LineCutter {
     }
 
     /// The same, but where it fails, some places may stand behind those that there were.
-    fn take(&mut self, piece: &[u8], places: &mut VecDeque<u64>) -> Result<Vec<Frame>, AllocError>
-        requires { IsWithin self.old.standing }
+    fn take(
+        &mut self,
+        piece: &[u8],
+        places: &mut VecDeque<u64>,
+        room: Frames,
+    ) -> Result<Fed, AllocError>
+        requires within { IsWithin self.old.standing }
+        requires room { room ≡ [] }
         ensures limit { self.new.limit ≡ self.old.limit }
         ensures given { IfOk result (λ given. (bytes : List ℕ) →
             self.old.standing ≡ text_standing self.old.limit bytes →
             ended_contents self.old.limit (bytes ++ piece.now)
-            ≡ ended_contents self.old.limit bytes ++ given.items) }
+            ≡ ended_contents self.old.limit bytes ++ fed_frames given) }
         ensures places { OnOk result ((bytes passed : List ℕ) →
             self.old.standing ≡ text_standing self.old.limit bytes → LinesStartAt self.old bytes →
             ended_places self.old.limit bytes ≡ passed ++ places.old.items →
@@ -142,35 +150,33 @@ impl LineCutter {
         ensures err { OnErr result (self.new ≡ self.old) }
         ensures kept { OnErr result (BeginsWith places.old.items places.new.items) }
     {
-        let mut contents = Vec::new(self.alloc);
+        let mut others = room;
         let Some(end) = place_of_lf(piece) else {
             self.hold(piece)?;
-            return Ok(contents);
+            return Ok(Fed {
+                first: None,
+                others,
+            });
         };
         let (last, behind) = (&piece[..end], &piece[end + 1..]);
         if !fits_with(self.line.as_slice(), last, self.limit) {
             *self = LineCutter::over(self.alloc, self.limit, self.start);
-            return Ok(contents);
+            return Ok(Fed {
+                first: None,
+                others,
+            });
         }
-        // The first line's content is put in once nothing can fail any more.
-        contents.push(Frame {
-            content: Items::new(self.alloc),
-            foreign: false,
-        })?;
         let had = places.len();
         places.push_back(self.start)?;
         let start = behind_line(self.start, self.line.len(), end);
-        let next = cut(self.alloc, self.limit, start, &mut contents, places, behind)?;
+        let next = cut(self.alloc, self.limit, start, &mut others, places, behind)?;
         self.line.extend_from_slice(last)?;
         let whole = mem::replace(self, next);
-        match whole.into_content() {
-            Some(content) => contents[0] = content,
-            None => {
-                drop(contents.remove(0));
-                places.remove(had);
-            }
+        let first = whole.into_content();
+        if first.is_none() {
+            places.remove(had);
         }
-        Ok(contents)
+        Ok(Fed { first, others })
     }
 
     /// Takes bytes of the same line.
@@ -226,12 +232,12 @@ fn cut(
     alloc: Global,
     limit: u32,
     first: u64,
-    contents: &mut Vec<Frame>,
+    contents: &mut Frames,
     places: &mut VecDeque<u64>,
     bytes: &[u8],
 ) -> Result<LineCutter, AllocError>
-    ensures given { OnOk result (contents.new.items ≡
-        contents.old.items ++ ended_contents limit bytes.now) }
+    ensures given { OnOk result (contents.new ≡
+        contents.old ++ ended_contents limit bytes.now) }
     ensures places { OnOk result ((start : ℕ) → first ≡ capped start →
         places.new.items ≡ places.old.items ++ places_from limit start (ended_lines bytes.now)) }
     ensures left { IfOk result (λ left. (start : ℕ) → first ≡ capped start → left ≡ record {
@@ -248,7 +254,7 @@ fn cut(
         if !fits_with(&[], line, limit) {
             return Ok(LineCutter::over(alloc, limit, start));
         }
-        push_content(alloc, contents, places, start, without_cr(line))?;
+        push_content(contents, places, start, without_cr(line))?;
         start = behind_line(start, 0, end);
         rest = &rest[end + 1..];
     }
@@ -269,14 +275,13 @@ fn behind_line(start: u64, had: usize, more: usize) -> u64
 
 /// Puts a content and its place behind the others, unless it is blank.
 fn push_content(
-    alloc: Global,
-    contents: &mut Vec<Frame>,
+    contents: &mut Frames,
     places: &mut VecDeque<u64>,
     place: u64,
     content: &[u8],
 ) -> Result<(), AllocError>
-    ensures content { OnOk result (contents.new.items ≡
-        contents.old.items ++ (if is_blank content.now then [] else plain content.now ∷ [])) }
+    ensures content { OnOk result (contents.new ≡
+        contents.old ++ (if is_blank content.now then [] else plain content.now ∷ [])) }
     ensures place { OnOk result (places.new.items ≡
         places.old.items ++ (if is_blank content.now then [] else place ∷ [])) }
     ensures kept { BeginsWith places.old.items places.new.items }
@@ -284,11 +289,7 @@ fn push_content(
     if is_blank(content) {
         return Ok(());
     }
-    let content = Vec::from_slice(alloc, content)?.into();
-    contents.push(Frame {
-        content,
-        foreign: false,
-    })?;
+    contents.push(content, false)?;
     places.push_back(place)?;
     Ok(())
 }

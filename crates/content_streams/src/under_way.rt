@@ -2,10 +2,11 @@
 
 ghost use Rattle.std.specs.Prelude.{◌≡◌, ◌≤◌, ◌+◌, ◌++◌, length, map};
 ghost use Rattle.std.specs.VecDeque.{deque_len, deque_capacity};
+ghost use Rattle.lsp_frames.specs.Feeds.{fed_frames};
 ghost use Rattle.content_streams.specs.Inner.Heads.{SmallFrames, at_start, behind_content, content_place, followed, head_bytes, stage_after, with_bytes};
 
 use crate::line_feed::place_of_lf;
-use lsp_frames::Frame;
+use lsp_frames::{Fed, Frames};
 use std::collections::VecDeque;
 
 /// What has come last of the head of the frame under way.
@@ -95,12 +96,26 @@ impl UnderWay {
     }
 
     /// This piece came, and completed these frames. Notes where each content begins.
-    pub(crate) fn follow(
-        self,
-        piece: &[u8],
-        frames: &[Frame],
-        places: &mut VecDeque<u64>,
-    ) -> UnderWay
+    pub(crate) fn follow(self, piece: &[u8], frames: &Fed, places: &mut VecDeque<u64>) -> UnderWay
+        requires { deque_len places.old + length (fed_frames frames.now) ≤ deque_capacity places.old }
+        ensures places { places.new.items ≡
+            places.old.items ++ (followed self piece.now (fed_frames frames.now)).0 }
+        ensures under_way { result ≡ (followed self piece.now (fed_frames frames.now)).1 }
+        ensures small { SmallFrames (fed_frames frames.now) }
+    {
+        match &frames.first {
+            Some(frame) => {
+                let size = frame.content.len();
+                let (place, behind) = self.completed(size, piece);
+                places.push_back_reserved(place);
+                let next = UnderWay::at(place.saturating_add(size as u64));
+                next.follow_others(behind, &frames.others, places)
+            }
+            None => self.follow_others(piece, &frames.others, places),
+        }
+    }
+
+    fn follow_others(self, piece: &[u8], frames: &Frames, places: &mut VecDeque<u64>) -> UnderWay
         requires { deque_len places.old + length frames.now ≤ deque_capacity places.old }
         ensures places { places.new.items ≡
             places.old.items ++ (followed self piece.now frames.now).0 }
@@ -109,12 +124,14 @@ impl UnderWay {
     {
         let mut under_way = self;
         let mut rest = piece;
-        for frame in frames {
-            let size = frame.content.len();
+        let mut index = 0;
+        while index < frames.len() {
+            let size = frames.size(index);
             let (place, behind) = under_way.completed(size, rest);
             places.push_back_reserved(place);
             under_way = UnderWay::at(place.saturating_add(size as u64));
             rest = behind;
+            index += 1;
         }
         under_way.with(rest)
     }

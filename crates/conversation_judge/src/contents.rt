@@ -11,7 +11,7 @@ ghost use Rattle.conversation_rules.specs.Contents.{sight_of, array_sight, guess
 ghost use Rattle.conversation_rules.specs.Entries.{answer_id};
 ghost use Rattle.conversation_rules.specs.Protocols as protocols;
 ghost use Rattle.conversation_rules.specs.Speakers.{Speaker as SpeakerValue, is_broken};
-ghost use Rattle.lsp_frames.specs.declared.frame.Frame.{Frame as FrameValue};
+ghost use Rattle.lsp_frames.specs.Gathered.{frame_of_content};
 
 use crate::answers::{put_single, reply_of};
 use crate::arrays::put_answers;
@@ -21,7 +21,7 @@ use conversation_ids::Owed;
 use conversation_reading::{Entry, Reading, StrictReader, WrittenId};
 use conversation_rules::{Finding, Level, Message, Protocol, Reply, Rule, Side, Sight};
 use json_values::{Items, Text};
-use lsp_frames::Frame;
+use lsp_frames::Content;
 use std::alloc::{AllocError, Global};
 use std::collections::VecDeque;
 
@@ -462,14 +462,14 @@ pub(crate) fn take_content(
     own: &mut Speaker,
     other: &mut Speaker,
     offset: u64,
-    frame: &Frame,
+    content: &Content<'_>,
 ) -> Result<(), AllocError>
     ensures findings { (place : ℕ) → offset ≡ capped place → OnOk result (findings.new.items ≡ findings.old.items
-        ++ (content_outcome protocol side is_unfinished (place, frame.now) (pair own.old other.old)).findings) }
+        ++ (content_outcome protocol side is_unfinished (place, frame_of_content content.now) (pair own.old other.old)).findings) }
     ensures pair { (place : ℕ) → offset ≡ capped place → OnOk result (pair own.new other.new
-        ≡ (content_outcome protocol side is_unfinished (place, frame.now) (pair own.old other.old)).pair) }
+        ≡ (content_outcome protocol side is_unfinished (place, frame_of_content content.now) (pair own.old other.old)).pair) }
 {
-    let reading = reader.read(frame.foreign, frame.content.as_slice())?;
+    let reading = reader.read(content.foreign, content.bytes)?;
     own.count = own.count.saturating_add(1);
     own.refusals.refused = own.refusals.refused.min(own.owed.len());
     let message = Message {

@@ -38,7 +38,7 @@ fn take_next(
     placed_contents_are_the_contents();
     let place = stream.front_place().unwrap_or(0);
     match stream.front() {
-        Some(frame) => {
+        Some(content) => {
             take_content(
                 alloc,
                 protocol,
@@ -49,7 +49,7 @@ fn take_next(
                 own,
                 other,
                 place,
-                frame,
+                &content,
             )?;
             stream.pop();
             Ok(true)

@@ -15,3 +15,4 @@ pub mod Cuts
 pub mod Units
 pub mod Standings
 pub mod GreaterLimits
+pub mod Blocks

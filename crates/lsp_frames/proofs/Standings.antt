@@ -1,9 +1,12 @@
 -- How a decoder stands after a piece more.
-use Rattle.std.proofs.Common.{◌≡◌, ℕ, ◌-◌, ◌≤◌, false, eqb, List, [], ◌∷◌, ◌++◌, length, refl, ap, sym, ◌∙◌, subst, arith, append-nil}
+use Rattle.std.proofs.Common.{◌≡◌, ℕ, ◌-◌, ◌≤◌, false, eqb, List, [], ◌∷◌, ◌++◌, length, Result, Ok, Err, refl, ap, sym, ◌∙◌, subst, arith, append-nil}
 use Rattle.std.proofs.lemmas.Grind.{common_steps}
 use Rattle.lsp_frames.specs.Lines.{no_fields}
 use Rattle.lsp_frames.specs.Heads.{HeadRead, Reading, Ends, Breaks, Unended, Step, Goes, Completes, Shows, step, head_from, head_at}
-use Rattle.lsp_frames.specs.Frames.{Whole, front}
+use Rattle.std.specs.Result.{IfOk}
+use Rattle.lsp_frames.specs.Feeds.{fed_frames}
+use Rattle.lsp_frames.specs.declared.fed.Fed.{Fed}
+use Rattle.lsp_frames.specs.Frames.{Faulty, Whole, front}
 use Rattle.lsp_frames.specs.Contents as contents
 use Rattle.lsp_frames.specs.Contents.{Standing, IsContents, end_of}
 use Rattle.lsp_frames.specs.Decoding.{Decoding, Open, Broken, IsOpen, StandsAfter, end_known, known}
@@ -142,3 +145,22 @@ pub end_of_contents : (decoder : Decoding) (bytes : List ℕ) (frames : List Fra
 end_of_contents decoder bytes frames left h k =
     let same : h.0 ≡ left = (only_contents decoder.limit bytes frames frames h.0 left h.1 k).1 in
     ap end_known (h.2 ∙ ap (known decoder.limit) same) ∙ end_is decoder.limit bytes frames left k
+
+-- with a fault or in a frame
+
+stands_either : (limit : ℕ) (stage : Stage) (held bytes piece : List ℕ) (frames given : List Frame) (last : HeadRead) → Gives limit (read_on limit (read_at stage held) piece) given last →
+    StandsAfter (record { limit = limit; standing = known_read (read_at stage held) }) bytes frames → StandsAfter (record { limit = limit; standing = known_read last }) (bytes ++ piece) (frames ++ given)
+stands_either limit (stages.Head place) held bytes piece frames given last h before = stands_open limit (stages.Head place) held bytes piece frames given last (λ fault e. cc) h before
+stands_either limit (stages.Content n foreign) held bytes piece frames given last h before = stands_open limit (stages.Content n foreign) held bytes piece frames given last (λ fault e. cc) h before
+stands_either limit (stages.Ended fault) held bytes piece frames [] last h before =
+    let P : HeadRead → Type 0 = λ r. StandsAfter (record { limit = limit; standing = known_read r }) (bytes ++ piece) (frames ++ []) in
+    subst P (sym h.1) (stands_broken (record { limit = limit; standing = Broken fault }) bytes piece frames [] fault refl refl before)
+stands_either limit (stages.Ended fault) held bytes piece frames (frame ∷ given) last h before =
+    let clash : Faulty fault ≡ Whole frame h.0 = h.1 in cc
+
+pub fed_stands : {E : Type 0} (result : Result Fed E) (limit : ℕ) (stage : Stage) (held bytes piece : List ℕ) (frames : List Frame) (last : HeadRead) →
+    IfOk result (λ given. Gives limit (read_on limit (read_at stage held) piece) (fed_frames given) last) →
+    StandsAfter (record { limit = limit; standing = known_read (read_at stage held) }) bytes frames →
+    IfOk result (λ given. StandsAfter (record { limit = limit; standing = known_read last }) (bytes ++ piece) (frames ++ fed_frames given))
+fed_stands (Ok given) limit stage held bytes piece frames last h before = stands_either limit stage held bytes piece frames (fed_frames given) last h before
+fed_stands (Err e) limit stage held bytes piece frames last h before = tt

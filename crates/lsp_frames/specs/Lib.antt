@@ -1,8 +1,10 @@
 pub mod Contents
 pub mod Decoding
 pub mod Devices
+pub mod Feeds
 pub mod Fields
 pub mod Frames
+pub mod Gathered
 pub mod Heads
 pub mod Inner
 pub mod Lines

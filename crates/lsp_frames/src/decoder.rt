@@ -1,18 +1,21 @@
 //! The decoder of a stream of frames that comes in pieces.
 
-ghost use Rattle.std.specs.Prelude.{◌≡◌, ◌≤◌, ◌++◌, ℕ, List, [], OnOk, Err};
+ghost use Rattle.std.specs.Prelude.{◌≡◌, ◌≤◌, ◌++◌, ℕ, List, [], IfOk, OnErr, OnOk, Err};
 ghost use Rattle.lsp_frames.specs.declared.frame.Frame.{Frame};
 ghost use Rattle.lsp_frames.specs.declared.frame.FrameFault.{FrameFault};
 ghost use Rattle.lsp_frames.specs.declared.fault.FeedFault.TheVariants.{Memory, Ended};
 ghost use Rattle.lsp_frames.specs.Contents.{Standing, IsContents, end_of};
+ghost use Rattle.lsp_frames.specs.Feeds.{fed_frames};
 ghost use Rattle.lsp_frames.specs.Decoding.{Broken, IfEnded, IfFed, IsOpen, StandsAfter, end_known};
 
 use crate::fault::FeedFault;
+use crate::fed::Fed;
 use crate::frame::{End, Frame};
+use crate::frames::Frames;
 use crate::limits::{LARGEST_CONTENT, LONGEST_CONTENT};
 use crate::partial::{Partial, Place, Stage};
 use json_values::Items;
-use std::alloc::Global;
+use std::alloc::{AllocError, Global};
 use std::marker::Model;
 
 /// Cuts a stream into frames, in whatever pieces it comes (LSP 3.17, "Base Protocol").
@@ -85,12 +88,28 @@ impl Decoder {
             Stage::Ended(fault) => {
                 return Err(FeedFault::Ended(fault, Items::new(self.alloc)));
             }
-            _ => self.partial.feed(self.alloc, self.limit, piece)?,
+            _ => self.partial.feed_apart(self.alloc, self.limit, piece)?,
         };
         match self.partial.stage {
             Stage::Ended(fault) => Err(FeedFault::Ended(fault, frames.into())),
             _ => Ok(frames),
         }
+    }
+
+    /// The frames that this piece completes, in memory that they share: that of `room`, which has none. A fault is told
+    /// by `end`, and behind one there are no more frames.
+    pub fn feed_together(&mut self, piece: &[u8], room: Frames) -> Result<Fed, AllocError>
+        requires { room ≡ [] }
+        ensures limit { self.new.limit ≡ self.old.limit }
+        ensures stands { (bytes : List ℕ) (frames : List Frame) →
+            StandsAfter self.old bytes frames →
+            IfOk result (λ given. StandsAfter self.new (bytes ++ piece.now) (frames ++ fed_frames given)) }
+
+        // Without memory nothing of the piece is taken.
+        ensures err { OnErr result (self.new ≡ self.old) }
+    {
+        self.partial
+            .feed_together(self.alloc, self.limit, piece, room)
     }
 
     /// How the stream ends, if no more bytes come.

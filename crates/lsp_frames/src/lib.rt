@@ -6,8 +6,11 @@ mod charset;
 mod decoder;
 mod device;
 mod fault;
+mod fed;
 mod field;
 mod frame;
+mod frames;
+mod gathering;
 mod law;
 mod limits;
 mod line;
@@ -21,7 +24,9 @@ mod writing;
 pub use decoder::Decoder;
 pub use device::{IoFault, PutFault, Sink, Source, put_all};
 pub use fault::FeedFault;
+pub use fed::Fed;
 pub use frame::{End, Frame, FrameFault};
+pub use frames::{Content, Frames};
 pub use law::{
     a_greater_limit_reads_the_same, contents_are_a_function_of_the_bytes, contents_stay,
     front_is_a_frame, front_shows_a_fault, limits_of_frames_in_figures, no_bytes_show_an_end,

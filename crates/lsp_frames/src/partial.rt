@@ -1,12 +1,17 @@
 //! What has come of the frame under way, and what a piece adds to it.
 
 ghost use Rattle.std.specs.Prelude.{◌≡◌, ◌==◌, ◌<◌, ◌++◌, ◌∷◌, ℕ, List, [], None, length, position, take, IfOk, IfSome, IsTrue, OnErr, OnOk};
+ghost use Rattle.std.specs.Option.{option_to_list};
+ghost use Rattle.lsp_frames.specs.Feeds.{fed_frames};
 ghost use Rattle.lsp_frames.specs.Heads.{head_from};
 ghost use Rattle.lsp_frames.specs.Decoding.{end_known};
-ghost use Rattle.lsp_frames.specs.Inner.Partials.{Cuts, Gives, HasKept, IsFront, IsPartial, IsSame, IsShort, IsUnderWay, Takes, TakesAll, first_place, frames_of, known_read, read_at, read_of, read_on};
+ghost use Rattle.lsp_frames.specs.Inner.Partials.{Adds, Cuts, Gives, HasKept, IsFront, IsPartial, IsSame, IsShort, IsUnderWay, Takes, TakesAll, first_place, frames_of, known_read, read_at, read_of, read_on};
 
+use crate::fed::Fed;
 use crate::field::place_of;
 use crate::frame::{End, Frame, FrameFault};
+use crate::frames::Frames;
+use crate::gathering::Gathering;
 use crate::limits::LONGEST_HEAD;
 use crate::line::{Fields, Line, line_meaning};
 use crate::usual_head::usual_head;
@@ -214,51 +219,77 @@ impl Partial {
         Ok(place.behind_line(limit, self.held.as_slice()))
     }
 
-    /// Takes a piece, and gives the frames that it completes. Where it fails, some of the piece may stand behind what
-    /// was held.
-    fn take(&mut self, alloc: Global, limit: u32, piece: &[u8]) -> Result<Vec<Frame>, AllocError>
+    /// Takes a piece, and adds the frames that it completes. The first of them stands by itself where some of its
+    /// content had come, and keeps that memory. Where it fails, some of the piece may stand behind what was held.
+    fn take<G: Gathering>(
+        &mut self,
+        alloc: Global,
+        limit: u32,
+        frames: &mut G,
+        piece: &[u8],
+    ) -> Result<Option<Frame>, AllocError>
         requires { IsPartial self.old }
-        ensures given { IfOk result (λ given. Gives limit
-            (read_on limit (read_of self.old) piece.now) given.items (read_of self.new)) }
+        ensures given { IfOk result (λ first. Adds limit (G.gathered frames.old) (G.gathered frames.new)
+            (read_on limit (read_of self.old) piece.now) first (read_of self.new)) }
         ensures partial { OnOk result (IsPartial self.new) }
         ensures err { OnErr result (HasKept self.old self.new) }
     {
-        let mut frames = Vec::new(alloc);
         if let Stage::Head(_) = self.stage
             && self.held.is_empty()
         {
-            let partial = cut(alloc, limit, self.stage, &mut frames, piece)?;
+            let partial = cut(alloc, limit, self.stage, frames, piece)?;
             *self = partial;
-            return Ok(frames);
+            return Ok(None);
         }
         match self.take_front(alloc, limit, piece)? {
-            Taken::All => Ok(frames),
-            Taken::Front(next, behind) => match self.stage {
-                Stage::Content(_, foreign) => {
-                    // The frame's content is put in once nothing can fail any more.
-                    frames.push(Frame {
-                        content: Items::new(alloc),
-                        foreign,
-                    })?;
-                    let partial = cut(alloc, limit, next, &mut frames, behind)?;
-                    let whole = mem::replace(self, partial);
-                    frames[0] = Frame {
-                        content: whole.held.into(),
-                        foreign,
-                    };
-                    Ok(frames)
-                }
-                _ => {
-                    let partial = cut(alloc, limit, next, &mut frames, behind)?;
-                    *self = partial;
-                    Ok(frames)
-                }
-            },
+            Taken::All => Ok(None),
+            Taken::Front(next, behind) => {
+                let partial = cut(alloc, limit, next, frames, behind)?;
+                Ok(mem::replace(self, partial).into_frame())
+            }
         }
     }
 
-    /// Takes a piece, and gives the frames that it completes.
-    pub(crate) fn feed(
+    /// The frame of a content that is whole.
+    fn into_frame(self) -> Option<Frame>
+        ensures { option_to_list result ≡ frames_of self.stage self.held.items }
+    {
+        match self.stage {
+            Stage::Content(_, foreign) => Some(Frame {
+                content: self.held.into(),
+                foreign,
+            }),
+            Stage::Head(_) => None,
+            Stage::Ended(_) => None,
+        }
+    }
+
+    /// Takes a piece, and adds the frames that it completes, as `take` does.
+    pub(crate) fn feed<G: Gathering>(
+        &mut self,
+        alloc: Global,
+        limit: u32,
+        frames: &mut G,
+        piece: &[u8],
+    ) -> Result<Option<Frame>, AllocError>
+        requires { IsPartial self.old }
+        ensures given { IfOk result (λ first. Adds limit (G.gathered frames.old) (G.gathered frames.new)
+            (read_on limit (read_of self.old) piece.now) first (read_of self.new)) }
+        ensures partial { OnOk result (IsPartial self.new) }
+        ensures err { OnErr result (IsSame self.old self.new) }
+    {
+        let had = self.held.len();
+        match self.take(alloc, limit, frames, piece) {
+            Ok(first) => Ok(first),
+            Err(error) => {
+                self.held.truncate(had);
+                Err(error)
+            }
+        }
+    }
+
+    /// Takes a piece, and gives the frames that it completes, each in memory of its own.
+    pub(crate) fn feed_apart(
         &mut self,
         alloc: Global,
         limit: u32,
@@ -270,14 +301,37 @@ impl Partial {
         ensures partial { OnOk result (IsPartial self.new) }
         ensures err { OnErr result (IsSame self.old self.new) }
     {
-        let had = self.held.len();
-        match self.take(alloc, limit, piece) {
-            Ok(frames) => Ok(frames),
-            Err(error) => {
-                self.held.truncate(had);
-                Err(error)
-            }
+        let mut frames = Vec::new(alloc);
+        // The first frame may come by itself, and is put in once nothing can fail any more.
+        frames.push(Frame {
+            content: Items::new(alloc),
+            foreign: false,
+        })?;
+        match self.feed(alloc, limit, &mut frames, piece)? {
+            Some(first) => frames[0] = first,
+            None => drop(frames.remove(0)),
         }
+        Ok(frames)
+    }
+
+    /// Takes a piece, and gives the frames that it completes, their contents behind one another in this room.
+    pub(crate) fn feed_together(
+        &mut self,
+        alloc: Global,
+        limit: u32,
+        piece: &[u8],
+        room: Frames,
+    ) -> Result<Fed, AllocError>
+        requires partial { IsPartial self.old }
+        requires room { room ≡ [] }
+        ensures given { IfOk result (λ given. Gives limit
+            (read_on limit (read_of self.old) piece.now) (fed_frames given) (read_of self.new)) }
+        ensures partial { OnOk result (IsPartial self.new) }
+        ensures err { OnErr result (IsSame self.old self.new) }
+    {
+        let mut others = room;
+        let first = self.feed(alloc, limit, &mut others, piece)?;
+        Ok(Fed { first, others })
     }
 
     /// How the stream ends, if no more bytes come.
@@ -361,35 +415,32 @@ fn line_front(limit: u32, place: Place, bytes: &[u8]) -> Option<Front<'_>>
 }
 
 /// Puts the frame of a whole content behind the others. A line makes none.
-fn push_whole(
+fn push_whole<G: Gathering>(
     alloc: Global,
-    frames: &mut Vec<Frame>,
+    frames: &mut G,
     stage: Stage,
     whole: &[u8],
 ) -> Result<(), AllocError>
-    ensures { OnOk result (frames.new.items ≡ frames.old.items ++ frames_of stage whole.now) }
+    ensures { OnOk result (G.gathered frames.new
+        ≡ G.gathered frames.old ++ frames_of stage whole.now) }
 {
     match stage {
-        Stage::Content(_, foreign) => {
-            let content = Vec::from_slice(alloc, whole)?.into();
-            frames.push(Frame { content, foreign })?;
-            Ok(())
-        }
+        Stage::Content(_, foreign) => frames.put(alloc, whole, foreign),
         Stage::Head(_) => Ok(()),
         Stage::Ended(_) => Ok(()),
     }
 }
 
 /// Cuts the frames off the front of the bytes, which begin at this stage, adds them to `frames`, and keeps what is left.
-fn cut(
+fn cut<G: Gathering>(
     alloc: Global,
     limit: u32,
     first: Stage,
-    frames: &mut Vec<Frame>,
+    frames: &mut G,
     bytes: &[u8],
 ) -> Result<Partial, AllocError>
     requires { IsUnderWay first [] }
-    ensures given { IfOk result (λ partial. Cuts limit frames.old.items frames.new.items
+    ensures given { IfOk result (λ partial. Cuts limit (G.gathered frames.old) (G.gathered frames.new)
         (read_on limit (read_at first []) bytes.now) (read_of partial)) }
     ensures partial { IfOk result (λ partial. IsPartial partial) }
 {

@@ -1,5 +1,6 @@
 -- What has come of the frame under way.
-use Rattle.std.specs.Prelude.{◌≡◌, ℕ, ◌+◌, ◌*◌, ◌<◌, ◌≤◌, ◌==◌, List, [], ◌∷◌, ◌++◌, None, length, position, take}
+use Rattle.std.specs.Prelude.{◌≡◌, ℕ, ◌+◌, ◌*◌, ◌<◌, ◌≤◌, ◌==◌, List, [], ◌∷◌, ◌++◌, Option, None, length, position, take}
+use Rattle.std.specs.Option.{option_to_list}
 use Rattle.lsp_frames.specs.Heads.{HeadRead, Ends, Breaks, Unended, head_from, head_at}
 use Rattle.lsp_frames.specs.Lines.{no_fields}
 use Rattle.lsp_frames.specs.Frames.{Whole, front_of}
@@ -53,6 +54,11 @@ Gives limit read (frame ∷ frames) last = (rest : List ℕ) × (front_of read �
 -- The same, of frames that stand behind those that were there.
 abbrev pub Cuts : ℕ → List Frame → List Frame → HeadRead → HeadRead → Type 0
 Cuts limit old new read last = (frames : List Frame) × (new ≡ old ++ frames) × Gives limit read frames last
+
+-- The same, where another frame may stand in front of those that were added.
+abbrev pub Adds : ℕ → List Frame → List Frame → HeadRead → Option Frame → HeadRead → Type 0
+Adds limit old new read first last =
+    (frames : List Frame) × (new ≡ old ++ frames) × Gives limit read (option_to_list first ++ frames) last
 
 -- A head has room for a byte more, and of a content no more has come than it has.
 abbrev pub IsUnderWay : Stage → List ℕ → Type 0

@@ -11,7 +11,7 @@ use Rattle.content_streams.proofs.line_cutter.cut.Goals as goal
 pub returns-then-not-fits_with-clause-given : goal.returns-then-not-fits_with-clause-given
 returns-then-not-fits_with-clause-given c =
     let long = rest_long c.args.limit c.loop-end.rest.now c.in-Some.end c.in-Some.ensures.position c.if-not-fits_with.ensures in
-    sym (append-nil c.loop-end.contents.items) ∙ ap (λ (xs : List Frame). c.loop-end.contents.items ++ xs) (sym long.0) ∙ c.loop-end.invariant.contents
+    sym (append-nil c.loop-end.contents) ∙ ap (λ (xs : List Frame). c.loop-end.contents ++ xs) (sym long.0) ∙ c.loop-end.invariant.contents
 
 pub returns-then-not-fits_with-clause-left : goal.returns-then-not-fits_with-clause-left
 returns-then-not-fits_with-clause-left c start first =
@@ -35,14 +35,14 @@ loop-end-preserved c =
     let behind = drop (c.in-Some.end + 1) rest in
     let goes = rest_goes c.args.limit rest c.in-Some.end c.in-Some.ensures.position c.if-not-fits_with.ensures in
     let left : take (length rest - (c.in-Some.end + 1)) behind ≡ behind = take_rest rest (c.in-Some.end + 1) in
-    let pushed : c.push_content.new.contents.items ≡ c.loop-end.contents.items ++ map plain (cond (is_blank (without_cr (take c.in-Some.end rest))) [] (without_cr (take c.in-Some.end rest) ∷ [])) =
-    c.in_ok-push_content.ensures.content ∙ ap (λ (content : List ℕ). c.loop-end.contents.items ++ cond (is_blank content) [] (plain content ∷ [])) c.without_cr.ensures
-    ∙ ap (λ (xs : List Frame). c.loop-end.contents.items ++ xs) (sym (kept_frames (without_cr (take c.in-Some.end rest)))) in
+    let pushed : c.push_content.new.contents ≡ c.loop-end.contents ++ map plain (cond (is_blank (without_cr (take c.in-Some.end rest))) [] (without_cr (take c.in-Some.end rest) ∷ [])) =
+    c.in_ok-push_content.ensures.content ∙ ap (λ (content : List ℕ). c.loop-end.contents ++ cond (is_blank content) [] (plain content ∷ [])) c.without_cr.ensures
+    ∙ ap (λ (xs : List Frame). c.loop-end.contents ++ xs) (sym (kept_frames (without_cr (take c.in-Some.end rest)))) in
     record {
-      contents = ap (λ (xs : List ℕ). c.push_content.new.contents.items ++ ended_contents c.args.limit xs) left
+      contents = ap (λ (xs : List ℕ). c.push_content.new.contents ++ ended_contents c.args.limit xs) left
           ∙ ap (λ (xs : List Frame). xs ++ ended_contents c.args.limit behind) pushed
-          ∙ append_assoc c.loop-end.contents.items _ (ended_contents c.args.limit behind)
-          ∙ ap (λ (xs : List Frame). c.loop-end.contents.items ++ xs) (sym goes.0) ∙ c.loop-end.invariant.contents;
+          ∙ append_assoc c.loop-end.contents _ (ended_contents c.args.limit behind)
+          ∙ ap (λ (xs : List Frame). c.loop-end.contents ++ xs) (sym goes.0) ∙ c.loop-end.invariant.contents;
       standing = ap (text_standing c.args.limit) left ∙ sym goes.1 ∙ c.loop-end.invariant.standing;
       places = λ start first. goes_at c.args.limit c.loop-end.start rest c.loop-end.places.items (c.args.places.now.items ++ places_from c.args.limit start (ended_lines c.args.bytes.now)) c.without_cr.result.now
           (line_place c.args.limit start (ended_lines c.args.bytes.now)) c.in-Some.end c.behind_line-start.result c.push_content.new.places.items (take (length rest - (c.in-Some.end + 1)) behind)
@@ -53,7 +53,7 @@ loop-end-preserved c =
 pub returns-clause-given : goal.returns-clause-given
 returns-clause-given c =
     let ends = rest_ends c.args.limit c.loop-end.rest.now c.in_default.ensures.position in
-    sym (append-nil c.loop-end.contents.items) ∙ ap (λ (xs : List Frame). c.loop-end.contents.items ++ xs) (sym ends.0) ∙ c.loop-end.invariant.contents
+    sym (append-nil c.loop-end.contents) ∙ ap (λ (xs : List Frame). c.loop-end.contents ++ xs) (sym ends.0) ∙ c.loop-end.invariant.contents
 
 pub returns-clause-left : goal.returns-clause-left
 returns-clause-left c start first =

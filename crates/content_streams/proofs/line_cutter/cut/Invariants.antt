@@ -9,7 +9,7 @@ use Rattle.content_streams.proofs.line_cutter.cut.Given as goal
 -- the contents and places so far and those of the rest; how the rest stands
 abbrev pub invariant-loop-end : goal.invariant-loop-end
 invariant-loop-end l = record {
-  contents : l.contents.items ++ ended_contents l.limit l.rest ≡ l.initial.contents.items ++ ended_contents l.limit l.bytes;
+  contents : l.contents ++ ended_contents l.limit l.rest ≡ l.initial.contents ++ ended_contents l.limit l.bytes;
   standing : text_standing l.limit l.rest ≡ text_standing l.limit l.bytes;
   places : (start : ℕ) → l.first ≡ capped start
       → IsAt l.limit l.start l.rest (l.places.items) (l.initial.places.items ++ places_from l.limit start (ended_lines l.bytes)) (line_place l.limit start (ended_lines l.bytes));

@@ -4,6 +4,7 @@ use Rattle.lsp_frames.specs.declared.frame.Frame.{Frame}
 use Rattle.lsp_frames.specs.declared.frame.FrameFault.{FrameFault}
 use Rattle.ghost_log.specs.declared.ghost_log.GhostLog.{GhostLog}
 use Rattle.content_streams.specs.Streams.{Stream}
+use Rattle.lsp_frames.specs.Feeds.{fed_frames}
 use Rattle.content_streams.specs.Inner.Cutters.{IsHeld}
 use Rattle.content_streams.specs.declared.content_stream.ContentStream.TheInside.{Inside}
 use Rattle.content_streams.specs.declared.ending.HowEnded.{HowEnded}
@@ -11,7 +12,7 @@ use Rattle.content_streams.specs.declared.places.Places.{Places}
 use Rattle.content_streams.proofs.Keeping.{fed, ignored}
 use Rattle.content_streams.proofs.KeepingPlaces.{placed_fed, placed_ignored}
 use Rattle.content_streams.proofs.content_stream.ContentStream.feed.Goals as goal
-use Rattle.content_streams.proofs.content_stream.ContentStream.feed.Goals.{then-is_none+in_ok-make_room+in_ok-contents, else-is_none}
+use Rattle.content_streams.proofs.content_stream.ContentStream.feed.Goals.{then-is_none+in_ok-room+in_ok-contents, else-is_none}
 
 shown : (fault : Option FrameFault) → is_some fault ≡ true → (shows : FrameFault) × (fault ≡ Some shows)
 shown None is = cc
@@ -32,8 +33,8 @@ invariant_of-self-2 c =
     let stands = is.stands refl in
     let After : Inside → Type 0 = λ a. IsHeld a.cutter a.row a.places (a.log.texts ++ piece ∷ []) a.ended a.log.taken in
     let done : After c.if-is_none.self-inside = elim c.if-is_none.branch [
-      | then-is_none+in_ok-make_room+in_ok-contents w ↦
-          (let given = w.in_ok-contents.contents.items in
+      | then-is_none+in_ok-room+in_ok-contents w ↦
+          (let given = fed_frames w.in_ok-contents.contents in
           let next : Places = record places { waiting = w.feed.new.places } in
           let Ends : Option HowEnded → Type 0 = λ ended. IsHeld w.feed.new.self w.add.new.self next (pieces ++ piece ∷ []) ended taken in
           subst After (sym w.self-inside-is) (subst Ends (sym is_open) (record {

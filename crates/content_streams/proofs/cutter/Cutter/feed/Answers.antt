@@ -1,5 +1,6 @@
 use Rattle.std.proofs.Common.{◌≡◌, ◌++◌, ◌∷◌, [], ℕ, List, None, sym, subst}
 use Rattle.std.specs.Result.{IfOk, OnOk}
+use Rattle.lsp_frames.specs.Feeds.{fed_frames}
 use Rattle.content_streams.specs.Inner.Cutters.{MayFeed, Stands, places_by, read_by}
 use Rattle.content_streams.specs.declared.cutter.Cutter.{Cutter}
 use Rattle.content_streams.specs.declared.cutter.Cutter.TheVariants.{Frames, Lines, Contents}
@@ -8,7 +9,7 @@ use Rattle.content_streams.proofs.cutter.Cutter.feed.Goals as goal
 
 pub returns-in-Frames-clause-given : goal.returns-in-Frames-clause-given
 returns-in-Frames-clause-given c =
-    let P : Cutter → Type 0 = λ k. IfOk c.feed.result (λ given. (pieces : List (List ℕ)) → Stands k pieces → read_by k (pieces ++ c.args.piece.now ∷ []) None ≡ read_by k pieces None ++ given.items) in
+    let P : Cutter → Type 0 = λ k. IfOk c.feed.result (λ given. (pieces : List (List ℕ)) → Stands k pieces → read_by k (pieces ++ c.args.piece.now ∷ []) None ≡ read_by k pieces None ++ fed_frames given) in
     subst P (sym c.in-Frames.is) (frames_given c.feed.result c.in-Frames.cutter c.args.piece.now c.feed.ensures.given)
 
 pub returns-in-Frames-clause-places : goal.returns-in-Frames-clause-places
@@ -25,7 +26,7 @@ returns-in-Frames-clause-stands c =
 
 pub returns-in-Lines-clause-given : goal.returns-in-Lines-clause-given
 returns-in-Lines-clause-given c =
-    let P : Cutter → Type 0 = λ k. IfOk c.feed-in-Lines.result (λ given. (pieces : List (List ℕ)) → Stands k pieces → read_by k (pieces ++ c.args.piece.now ∷ []) None ≡ read_by k pieces None ++ given.items) in
+    let P : Cutter → Type 0 = λ k. IfOk c.feed-in-Lines.result (λ given. (pieces : List (List ℕ)) → Stands k pieces → read_by k (pieces ++ c.args.piece.now ∷ []) None ≡ read_by k pieces None ++ fed_frames given) in
     subst P (sym c.in-Lines.is) (lines_given c.feed-in-Lines.result c.in-Lines.cutter c.args.piece.now c.feed-in-Lines.ensures.given)
 
 pub returns-in-Lines-clause-places : goal.returns-in-Lines-clause-places
@@ -42,7 +43,7 @@ returns-in-Lines-clause-stands c =
 
 pub returns-in-Contents-clause-given : goal.returns-in-Contents-clause-given
 returns-in-Contents-clause-given c =
-    let P : Cutter → Type 0 = λ k. MayFeed k → IfOk c.feed-in-Contents.result (λ given. (pieces : List (List ℕ)) → Stands k pieces → read_by k (pieces ++ c.args.piece.now ∷ []) None ≡ read_by k pieces None ++ given.items) in
+    let P : Cutter → Type 0 = λ k. MayFeed k → IfOk c.feed-in-Contents.result (λ given. (pieces : List (List ℕ)) → Stands k pieces → read_by k (pieces ++ c.args.piece.now ∷ []) None ≡ read_by k pieces None ++ fed_frames given) in
     subst P (sym c.in-Contents.is) (λ may. contents_given c.feed-in-Contents.result c.in-Contents.cutter c.args.piece.now may c.feed-in-Contents.ensures.given) c.requires.may
 
 pub returns-in-Contents-clause-places : goal.returns-in-Contents-clause-places

@@ -21,10 +21,10 @@ returns-in-Ended-clause-stands c = λ bytes frames h.
 
 pub returns : goal.returns
 returns c =
-    let after : Decoding = record { limit = c.self.inside.limit; standing = known_read (read_of c.feed.new.self) } in
+    let after : Decoding = record { limit = c.self.inside.limit; standing = known_read (read_of c.feed_apart.new.self) } in
     let stands : (bytes : List ℕ) (frames : List Frame) → StandsAfter c.args.self.now bytes frames → StandsAfter after (bytes ++ c.args.piece.now) (frames ++ c.in_ok-frames-in_default.frames.items) = λ bytes frames h.
     let P : Decoding → Type 0 = λ d. StandsAfter d bytes frames in
-    stands_open c.self.inside.limit c.self.inside.partial.stage c.self.inside.partial.held.items bytes c.args.piece.now frames c.in_ok-frames-in_default.frames.items (read_of c.feed.new.self)
+    stands_open c.self.inside.limit c.self.inside.partial.stage c.self.inside.partial.held.items bytes c.args.piece.now frames c.in_ok-frames-in_default.frames.items (read_of c.feed_apart.new.self)
     (λ fault e. c.in_default.not-Ended fault e) c.in_ok-frames-in_default.ensures.given (subst P (sym c.self.view_is) h) in
     let Told : Result (Vec Frame Global) FeedFault → Type 0 = λ r.
     ((bytes : List ℕ) (frames : List Frame) → StandsAfter c.args.self.now bytes frames → IfFed r (λ given. StandsAfter after (bytes ++ c.args.piece.now) (frames ++ given)))
@@ -37,12 +37,12 @@ returns c =
             let Q : List Frame → Type 0 = λ given. StandsAfter after (bytes ++ c.args.piece.now) (frames ++ given) in
             subst Q (sym w.into.ensures) (stands bytes frames h)),
         tt,
-        ap (λ (s : Stage). known_read (read_at s c.feed.new.self.held.items)) w.in-Ended-stage.is,
+        ap (λ (s : Stage). known_read (read_at s c.feed_apart.new.self.held.items)) w.in-Ended-stage.is,
         (λ e. absurd (cc)),
       )
       | in_default-stage w ↦ subst Told (sym w.result-is) (
         stands,
-        is_open c.feed.new.self.stage c.feed.new.self.held.items (λ fault e. w.in_default-stage.not-Ended fault e),
+        is_open c.feed_apart.new.self.stage c.feed_apart.new.self.held.items (λ fault e. w.in_default-stage.not-Ended fault e),
         tt,
         (λ e. absurd (cc)),
       )
