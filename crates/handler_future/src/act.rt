@@ -188,7 +188,8 @@ pub(crate) fn sum(
     sum_of_both(left, right)
 }
 
-/// The template's value, where it is a whole number of i64.
+/// The template's value, where it is a whole number of i64. It stands within the sum, which asks for two of them.
+#[inline(always)]
 fn whole(
     alloc: Global,
     template: &Template,

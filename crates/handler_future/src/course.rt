@@ -107,7 +107,9 @@ fn run(
     Ok(Progress::Ended(Reply::Done(Json::null())))
 }
 
-/// Does the step at the course's place.
+/// Does the step at the course's place. Apart, since a method that answers a sum needs no other step, and these take a
+/// large frame.
+#[inline(never)]
 fn follow(
     alloc: Global,
     step: &Step,

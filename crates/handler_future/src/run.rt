@@ -160,14 +160,15 @@ pub(crate) fn clear(run: &mut Run)
 /// Places of a list that are kept for the next call; the room of a longer one is given back.
 const MOST_KEPT: usize = 32;
 
-/// Empties a list. Room for more than so many is given back.
+/// Empties a list. Room for more than so many is given back. Most lists are empty: that is seen without a call.
+#[inline(always)]
 fn empty<T: Drop>(alloc: Global, list: &mut Vec<T>, most: usize)
     ensures items { list.new.items ≡ [] }
     ensures room { vec_capacity list.new ≤ most }
 {
     if list.capacity() > most {
         drop(mem::replace(list, Vec::new(alloc)));
-    } else {
+    } else if !list.is_empty() {
         list.clear();
     }
 }

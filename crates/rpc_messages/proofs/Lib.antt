@@ -6,6 +6,7 @@ mod Elements
 mod Envelopes
 mod Flat
 mod KeyLemmas
+mod Named
 mod Placed
 mod Shown
 mod TakenMember

@@ -21,6 +21,7 @@ use std::alloc::{AllocError, Global};
 pub(crate) mod direct;
 mod envelope;
 mod members;
+mod names;
 mod reply;
 mod their_call;
 mod version;

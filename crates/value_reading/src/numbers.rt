@@ -19,6 +19,7 @@ const ROOM_FOR_A_DIGIT: u64 = 100_000_000_000_000_000;
 const DIGITS_THAT_FIT: usize = 18;
 
 /// Passes a number.
+#[inline(always)]
 pub(crate) fn read_number(text: &str, at: &mut usize) -> Result<Number, Unread>
     ensures number { IfOk result
         (λ n. IsRead 0 text.now at.old at.new (number (number_view n))) }
@@ -33,6 +34,7 @@ pub(crate) fn read_number(text: &str, at: &mut usize) -> Result<Number, Unread>
 }
 
 /// The number that begins there, and its end.
+#[inline(always)]
 fn number_at(text: &str, from: usize) -> Option<(Number, usize)>
     ensures number { IfSome result
         (λ r. IsRead 0 text.now from r.1 (number (number_view r.0))) }

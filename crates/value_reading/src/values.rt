@@ -12,8 +12,10 @@ use crate::unread::Unread;
 use serde_json::{Map, Number, Value};
 use std::alloc::Global;
 
-/// Passes the value that begins there. Its arrays and objects may nest `levels` deep.
+/// Passes the value that begins there. Its arrays and objects may nest `levels` deep. It stands within what calls it,
+/// and only arrays and objects take a call: most values are strings and numbers.
 #[cycle(value)]
+#[inline(always)]
 pub fn read_value(alloc: Global, text: &str, at: &mut usize, levels: usize) -> Result<Value, Unread>
     ensures value { IfOk result (λ v. IsRead levels text.now at.old at.new (view v)) }
     ensures bounds { OnOk result ((at.old < at.new) × (at.new ≤ length text.now)) }
@@ -52,6 +54,7 @@ pub fn read_value(alloc: Global, text: &str, at: &mut usize, levels: usize) -> R
 
 /// Passes the rest of an array, from behind its bracket on.
 #[cycle(value)]
+#[inline(never)]
 fn read_items(
     alloc: Global,
     text: &str,
@@ -78,6 +81,7 @@ fn read_items(
 
 /// Passes the rest of an object, from behind its brace on.
 #[cycle(value)]
+#[inline(never)]
 fn read_members(
     alloc: Global,
     text: &str,

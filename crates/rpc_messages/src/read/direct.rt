@@ -15,6 +15,7 @@ ghost use Rattle.value_reading.specs.Lexed.{IsRead, ItemsAreRead, MembersAreRead
 ghost use Rattle.rpc_messages.specs.Unit.{unit_seen, unit_of_reading, value_unit, batch_of, entries_of};
 
 use super::envelope::{Envelope, empty, is_for_cancel, keep};
+use super::names::read_name;
 use super::{MOST_DEPTH_IN, take_message};
 use crate::entry::Entry;
 use crate::unit::Unit;
@@ -22,9 +23,7 @@ use json_reading::Piece;
 use json_values::Items;
 use serde_json::Value;
 use std::alloc::Global;
-use value_reading::{
-    Unread, is_over, next_byte, pass, pass_container, read_name, read_string, read_value,
-};
+use value_reading::{Unread, is_over, next_byte, pass, pass_container, read_string, read_value};
 
 /// The unit of a text that is seen to be one object, or a batch of such.
 pub(crate) fn read_direct(alloc: Global, text: &str, with_params: bool) -> Result<Unit, Unread>

@@ -89,6 +89,7 @@ pub(super) fn empty<'a>() -> Envelope<'a>
 }
 
 /// Keeps a member, where its name counts, in place of an earlier one of that name.
+#[inline(always)]
 pub(super) fn keep<'a>(envelope: &mut Envelope<'a>, name: &str, member: Piece<'a>)
     ensures { envelope_view envelope.new
         ≡ with_member name.now (piece_view member.entry) (envelope_view envelope.old) }
@@ -104,6 +105,7 @@ pub(super) fn keep<'a>(envelope: &mut Envelope<'a>, name: &str, member: Piece<'a
     }
 }
 
+#[inline(always)]
 fn put<'a>(place: &mut Option<Piece<'a>>, member: Piece<'a>)
     ensures { place.new ≡ Some member.entry }
 {

@@ -11,7 +11,10 @@ pub(super) fn is_version_2(version: &Option<Piece<'_>>) -> bool
     ensures { result ≡ is_version_2 (option_map piece_view version.now) }
 {
     match version {
-        Some(version) => version.as_str() == Some("2.0"),
+        Some(version) => match version.as_str() {
+            Some(text) => text == "2.0",
+            None => false,
+        },
         None => false,
     }
 }
