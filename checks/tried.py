@@ -101,7 +101,7 @@ def check_lost(count: ran.Count, name: str, lost: set[str], wanted: Iterable[str
 
 def edits_below(copy: Copy) -> Iterator[tuple[str, str, Change, Iterable[str]]]:
     """Edits of a crate on which others stand, and the bodies that these cost."""
-    folder, mine, all_above = f"crates/{EDITED}", copy.of([EDITED]), copy.of(listing().above([EDITED]))
+    folder, mine = f"crates/{EDITED}", copy.of([EDITED])
     found = own(f"{copy.at}/{folder}")
     function, answer = next(
         (fn, files[0])
@@ -124,17 +124,40 @@ def edits_below(copy: Copy) -> Iterator[tuple[str, str, Change, Iterable[str]]]:
     yield "a private function", source, lambda it: it + b"\nfn more() {\n    loop {}\n}\n", mine
     yield "an import", source, lambda it: b"use std::cmp;\n" + it, mine
     yield "a comment", source, lambda it: b"// More.\n" + it, ()
-    yield "a clause", source, lambda it: re.sub(
-        rb"(?s)(\npub fn .*?)ensures", rb"\1ensures m { 0 } ensures", it, 1
-    ), all_above
-    yield "a definition", f"{folder}/specs/Texts.antt", longer, all_above
-    yield "a lemma that other crates cite", f"{folder}/{LEMMA}", longer, all_above
-    yield "a type", source, lambda it: it + b"\npub struct More;\n", all_above
+
+
+def edits_seen(copy: Copy) -> Iterator[tuple[str, str, Change, str]]:
+    """Edits of what crates above see, and what a crate's files have that names it."""
+    folder = f"crates/{EDITED}"
+    clause = lambda it: re.sub(rb"(?s)(\npub fn .*?)ensures", rb"\1ensures m { 0 } ensures", it, count=1)
+    yield "a clause", f"{folder}/src/utf8.rt", clause, rf"\b{EDITED}::[^;]*\butf8_text\b"
+    yield "a type", f"{folder}/src/json_text.rt", lambda it: it + b"\npub struct M;\n", rf"\b{EDITED}::[^;]*\bJsonText\b"
+    yield "a definition", f"{folder}/specs/Texts.antt", longer, rf"\bRattle\.{EDITED}\.specs\.Texts\b"
+    yield "a lemma that other crates cite", f"{folder}/{LEMMA}", longer, rf"\bRattle\.{EDITED}\.proofs\.Placed\b"
+
+
+def check_seen_below(count: ran.Count, copy: Copy) -> None:
+    """What crates above see costs all of each crate that names it, and none of those that don't reach it."""
+    above = listing().above([EDITED])
+    texts = {it: own(f"{copy.at}/crates/{it}").texts.values() for it in above}
+    for name, file, change, named in edits_seen(copy):
+        least = copy.of({EDITED, *(it for it in above if any(re.search(named, text) for text in texts[it]))})
+        lost = copy.edited(file, change, lambda: copy.lost(EDITED))
+        count.check(f"{name} below, for those that name it", least <= lost, f"{sorted(least - lost)}")
+        count.check(
+            f"{name} below, for none but those above", lost <= copy.of(above), f"{sorted(lost - copy.of(above))}"
+        )
+    lost = copy.edited(f"crates/{EDITED}/specs/Known.antt", longer, copy.lost)
+    count.check(
+        "a definition that one crate cites",
+        copy.of([EDITED, "connection_messages"]) <= lost
+        and not lost & copy.of(["value_reading", "conversation_reading", "open_calls"]),
+        f"{sorted(lost)}",
+    )
 
 
 def check_below(count: ran.Count, copy: Copy) -> None:
-    """What nothing else sees of a function costs its own bodies alone; what the crate sees those of the crate; what
-    crates above see costs each of them all."""
+    """What nothing else sees of a function costs its own bodies alone, and what the crate sees those of the crate."""
     for name, file, change, wanted in edits_below(copy):
         check_lost(count, f"{name} below", copy.edited(file, change, lambda: copy.lost(EDITED)), wanted)
     change = lambda it: it.replace(b"\njob_slots: ", b"\njob_slots: itoa ")
@@ -267,8 +290,12 @@ def check_writing(count: ran.Count, copy: Copy) -> None:
         return kept
 
     kept = copy.edited(FILE, lambda it: None, meanwhile)
-    above = listing().above([EDITED])
-    count.same("nothing of what has changed meanwhile", kept, {it for it in crates if it not in above})
+    above = {*listing().above([EDITED])}
+    count.check(
+        "nothing of what has changed meanwhile",
+        {*crates} - above <= kept and not kept & {EDITED, "connection_messages", "conversation_reading"},
+        f"{kept}",
+    )
 
     def at_once() -> set[str]:
         with ThreadPoolExecutor(8) as pool:
@@ -369,7 +396,16 @@ def main(words: list[str]) -> None:
         if copy.bodies[crate]:
             copy.keep(crate, record)
     count.check("a record of all bodies", not copy.lost() and len(copy.every) > 100)
-    for check in (check_below, check_bodies, check_scripts, check_lines, check_left_out, check_writing, check_kits):
+    for check in (
+        check_below,
+        check_seen_below,
+        check_bodies,
+        check_scripts,
+        check_lines,
+        check_left_out,
+        check_writing,
+        check_kits,
+    ):
         check(count, copy)
     count.end()
 

@@ -17,7 +17,8 @@ from typing import Iterable, Iterator
 
 from support.bodies import Body, Change
 from support.rounds import Judged
-from support.seen import Own, own, seen
+from support.reached import ROOT, reached
+from support.seen import Own, own, read, seen
 from tools import kit  # (it stands in bin/)
 from tools.repository import listing
 from tools.sources import line_of
@@ -83,11 +84,13 @@ class Record:
         folders = {it: f"{self.root}/crates/{it}" for it in self.listed.lines}
         with_bodies = [it for it in names if os.path.isdir(f"{folders[it]}/wrong-bodies")]
         below = {it: self.listed.below(it)[:-1] for it in with_bodies}
-        shown = {it: sum_of(seen(folders[it])) for it in {*chain(*below.values())}}
+        shown = {it: dict(seen(folders[it])) for it in {*chain(*below.values())}}
+        roots = {it: read(f"{folders[it]}/{ROOT}") for it in shown}
 
         def of_crate(name: str) -> Today:
             found = own(folders[name])
-            others = [(it, self.listed.libraries[it], shown[it]) for it in below[name]]
+            rests = reached(found.texts.values(), {it: shown[it] for it in below[name]}, roots)
+            others = [(it, self.listed.libraries[it], rests[it]) for it in below[name]]
             rest = sum_of(self.basis, name, self.listed.libraries[name], others)
             return Today(sum_of(rest, found.shared)[:16], sum_of(rest, found.texts), found)
 
