@@ -1,12 +1,12 @@
 -- Entries on their pages.
-use Rattle.std.proofs.Common.{◌≡◌, ℕ, ◌<◌, ◌≤◌, ◌==◌, ◌/◌, not, Bool, true, false, cond, List, [], ◌∷◌, ◌++◌, Option, Some, None, refl, sym, ap, subst, ◌∙◌, arith, length, append_assoc, eq-eqb, nat_lt, ◌&&◌}
+use Rattle.std.proofs.Common.{◌≡◌, ℕ, zero, suc, ◌<◌, ◌≤◌, ◌==◌, ◌/◌, not, Bool, true, false, cond, List, [], ◌∷◌, ◌++◌, Option, Some, None, refl, sym, ap, subst, ◌∙◌, arith, length, append_assoc, eq-eqb, nat_lt, ◌&&◌, Bor}
 use Rattle.std.proofs.lemmas.Bool.{eqb-true, eqb-false, ne_eqb, false_from_ne_true, ltb-true, lt-ltb}
 use Rattle.std.proofs.lemmas.List.{append-nil, map-append}
 use Rattle.std.proofs.lemmas.List.Elements.{filter-append}
 use Rattle.std.specs.Map.{set_value, remove_entry}
 use Rattle.std.specs.BTreeMap.{is_at}
 use Rattle.std.specs.Ordering.{nat_cmp, is_le}
-use Rattle.std.specs.Option.{unwrap_or, option_map, option_or}
+use Rattle.std.specs.Option.{unwrap_or, option_or, option_copied, IsSome, IfSome}
 use Rattle.std.specs.List.{filter, find, slice_get, slice_index_or}
 use Rattle.std.proofs.lemmas.List.Folds.{find-append}
 use Rattle.std.specs.BTreeMap.Range.{range_contains, entries_between}
@@ -14,10 +14,10 @@ use Rattle.std.specs.declared.ops.Bound.TheVariants.{Included, Unbounded}
 use Rattle.std.specs.declared.cmp.Ordering.TheVariants.{Less, Equal, Greater}
 use Rattle.std.specs.declared.collections.VecDeque.{VecDeque}
 use Rattle.std.specs.BTreeMap.{insert_entry}
-use Rattle.number_windows.specs.Numbered.{at, without, changed_at, first_number, next_number, Above, Below, Ascending}
+use Rattle.number_windows.specs.Numbered.{at, without, changed_at, first_number, first_above, Above, Below, Ascending}
 use Rattle.number_windows.specs.Windows.{flat, OnPage, Paged, Filled, IsPaged}
-use Rattle.number_windows.proofs.Numbered.{changed, changed_above, without_above, removed, unchanged, pushed, keeps}
-use Rattle.number_windows.proofs.Rows.{at_over, at_behind, at_front, without_missing, ascending_front, ascending_behind, ascending_without, ascending_changed, ascending_push, at_changed}
+use Rattle.number_windows.proofs.Numbered.{changed, changed_above, without_above, removed, unchanged, pushed, keeps, at_above}
+use Rattle.number_windows.proofs.Rows.{above_at, below_seam, at_over, at_behind, at_front, without_missing, ascending_front, ascending_behind, ascending_without, ascending_changed, ascending_push, at_changed}
 
 true_not_false : true ≡ false → ⊥
 true_not_false is = cc
@@ -415,23 +415,70 @@ put_back page ps between old new whole there put =
 
 -- ---- the next
 
-or_front : {X : Type 0} (o p : Option (ℕ × X)) (n : ℕ) → Some n ≡ option_map (λ e. e.0) o → Some n ≡ option_map (λ e. e.0) (option_or o p)
-or_front None p n is = cc
-or_front (Some e) p n is = is
+or_front : {X : Type 0} (o p : Option X) (e : X) → Some e ≡ o → Some e ≡ option_or o p
+or_front None p e is = cc
+or_front (Some f) p e is = is
 
-or_behind : {X : Type 0} (o p : Option (ℕ × X)) → None ≡ option_map (λ e. e.0) o → option_map (λ e. e.0) p ≡ option_map (λ e. e.0) (option_or o p)
+or_behind : {X : Type 0} (o p : Option X) → None ≡ o → p ≡ option_or o p
 or_behind None p is = refl
 or_behind (Some e) p is = cc
 
-pub next_front : {X : Type 0} (after n : ℕ) (a b : List (ℕ × X)) → Some n ≡ next_number after a → Some n ≡ next_number after (a ++ b)
-next_front {X} after n a b is =
-    let p = λ (e : ℕ × X). nat_lt after e.0 in
-    or_front (find p a) (find p b) n is ∙ ap (λ o. option_map (λ e. e.0) o) (sym (find-append p a b))
+pub front_above : {X : Type 0} (after : ℕ) (e : ℕ × X) (a b : List (ℕ × X)) → Some e ≡ first_above after a → Some e ≡ first_above after (a ++ b)
+front_above {X} after e a b is =
+    let p = λ (x : ℕ × X). nat_lt after x.0 in
+    or_front (find p a) (find p b) e is ∙ sym (find-append p a b)
 
-pub next_rest : {X : Type 0} (after : ℕ) (a b : List (ℕ × X)) → None ≡ next_number after a → next_number after b ≡ next_number after (a ++ b)
-next_rest {X} after a b is =
-    let p = λ (e : ℕ × X). nat_lt after e.0 in
-    or_behind (find p a) (find p b) is ∙ ap (λ o. option_map (λ e. e.0) o) (sym (find-append p a b))
+pub rest_above : {X : Type 0} (after : ℕ) (a b : List (ℕ × X)) → None ≡ first_above after a → first_above after b ≡ first_above after (a ++ b)
+rest_above {X} after a b is =
+    let p = λ (x : ℕ × X). nat_lt after x.0 in
+    or_behind (find p a) (find p b) is ∙ sym (find-append p a b)
+
+not_over : (after n : ℕ) → n ≤ after → nat_lt after n ≡ false
+not_over after n le = false_from_ne_true (nat_lt after n) (λ over. let less : after < n = ltb-true after n over in omega arith)
+
+-- none of those below a number that is at most the other is above that one
+pub none_over : {X : Type 0} (after m : ℕ) (es : List (ℕ × X)) → m ≤ after → Below m es → first_above after es ≡ None
+none_over after m [] le under = refl
+none_over after m (e ∷ es) le under =
+    let lt : e.0 < m = under.0 in
+    ap (λ b. cond b (Some e) (first_above after es)) (not_over after e.0 (omega arith)) ∙ none_over after m es le under.1
+
+head_above : {X : Type 0} (m : ℕ) (es : List (ℕ × X)) → Above m es → first_above m es ≡ slice_get es 0
+head_above m [] over = refl
+head_above m (e ∷ es) over = ap (λ b. cond b (Some e) (first_above m es)) (lt-ltb m e.0 over.0)
+
+-- behind the entry with a number
+pub index_above : {X : Type 0} (n i : ℕ) (es : List (ℕ × X)) → Ascending es → i < length es → ((d : ℕ × X) → (slice_index_or es i d).0 ≡ n) → first_above n es ≡ slice_get es (suc i)
+index_above n i [] order lt is = absurd (omega arith)
+index_above n zero (e ∷ es) order lt is =
+    let here : e.0 ≡ n = is e in
+    ap (λ b. cond b (Some e) (first_above n es)) (not_over n e.0 (omega (arith, here))) ∙ head_above n es (subst (λ m. Above m es) here order.0)
+index_above n (suc i) (e ∷ es) order lt is =
+    let under : i < length es = omega arith in
+    let less : e.0 < (slice_index_or es i e).0 = above_at e.0 es i e order.0 under in
+    ap (λ b. cond b (Some e) (first_above n es)) (not_over n e.0 (omega (arith, less, is e))) ∙ index_above n i es order.1 under is
+
+-- where a second list begins at most at the number, none of the first is above it
+pub none_before : {X : Type 0} (after : ℕ) (a b : List (ℕ × X)) → Ascending (a ++ b) → 0 < length b → ((d : ℕ × X) → (slice_index_or b 0 d).0 ≤ after) → None ≡ first_above after a
+none_before after a [] order some is = absurd (omega arith)
+none_before after a (e ∷ b) order some is = sym (none_over after e.0 a (is e) (below_seam a (e ∷ b) 0 e order some))
+
+past : {X : Type 0} (i : ℕ) (es : List X) → length es ≤ i → None ≡ slice_get es i
+past i [] le = refl
+past zero (e ∷ es) le = absurd (omega arith)
+past (suc i) (e ∷ es) le = past i es (omega arith)
+
+within : {X : Type 0} (i : ℕ) (es : List X) (e : X) → i < length es → Some (slice_index_or es i e) ≡ slice_get es i
+within i [] e lt = absurd (omega arith)
+within zero (f ∷ es) e lt = refl
+within (suc i) (f ∷ es) e lt = within i es e (omega arith)
+
+-- what is got at an index
+pub got_at : {X : Type 0} (r : Option (Bor X)) (i : ℕ) (es : List X) → (IsSome r → i < length es) → (i < length es → IsSome r) → IfSome r (λ x. x.now ≡ slice_index_or es i x.now)
+    → option_copied r ≡ slice_get es i
+got_at None i es some all is =
+    past i es (omega (arith, (λ (lt : i < length es). let no : false ≡ true = all lt in true_not_false (sym no))))
+got_at (Some x) i es some all is = ap Some is ∙ within i es x.now (some refl)
 
 none_above : {X : Type 0} (after page : ℕ) (es : List (ℕ × X)) → OnPage page es → page < after / 32 → find (λ e. nat_lt after e.0) es ≡ None
 none_above after page [] on lt = refl
@@ -478,6 +525,23 @@ skipped after (p ∷ ps) paged =
     (λ out. none_above after p.0 p.1.items paged.0 (before (after / 32) p.0 out)) (skipped after ps paged.1)
 
 -- what is above a number stands on its page or behind
-pub next_part : {X Z : Type 0} (after : ℕ) (ps part : List (ℕ × Block X Z)) → Paged ps → part ≡ entries_between nat_cmp (Included (after / 32)) Unbounded ps
-    → next_number after (flat ps) ≡ next_number after (flat part)
-next_part after ps part paged is = ap (λ o. option_map (λ e. e.0) o) (skipped after ps paged ∙ ap (λ qs. find (λ e. nat_lt after e.0) (flat qs)) (sym is))
+pub above_part : {X Z : Type 0} (after : ℕ) (ps part : List (ℕ × Block X Z)) → Paged ps → part ≡ entries_between nat_cmp (Included (after / 32)) Unbounded ps
+    → first_above after (flat ps) ≡ first_above after (flat part)
+above_part after ps part paged is = skipped after ps paged ∙ ap (λ qs. first_above after (flat qs)) (sym is)
+
+page_step : {X Z : Type 0} (b : Bool) (after : ℕ) (e : ℕ × X) (p : ℕ × Block X Z) (ps : List (ℕ × Block X Z)) (block : Block X Z) (o : Option (Block X Z)) → cond b (Some p.1) o ≡ Some block
+    → Some e ≡ first_above after block.items → (o ≡ Some block → None ≡ first_above after p.1.items) → (o ≡ Some block → Some e ≡ first_above after (flat ps))
+    → Some e ≡ first_above after (p.1.items ++ flat ps)
+page_step true after e p ps block o there is none rest =
+    let here : p.1 ≡ block = cc in
+    front_above after e p.1.items (flat ps) (subst (λ (d : Block _ _). Some e ≡ first_above after d.items) (sym here) is)
+page_step false after e p ps block o there is none rest = rest there ∙ rest_above after p.1.items (flat ps) (none there)
+
+-- and first on its page
+pub page_above : {X Z : Type 0} (after : ℕ) (e : ℕ × X) (ps : List (ℕ × Block X Z)) (block : Block X Z) → Ascending ps → Paged ps → at (after / 32) ps ≡ Some block
+    → Some e ≡ first_above after block.items → Some e ≡ first_above after (flat ps)
+page_above after e [] block order paged there is = cc
+page_above after e (p ∷ ps) block order paged there is =
+    page_step ((after / 32) == p.0) after e p ps block (at (after / 32) ps) there is
+    (λ rest. sym (none_above after p.0 p.1.items paged.0 (at_above p.0 (after / 32) block ps order.0 rest)))
+    (λ rest. page_above after e ps block order.1 paged.1 rest is)

@@ -11,7 +11,7 @@ use Rattle.number_windows.proofs.Numbered.{apart, apart_after, at_above, without
 
 -- ---- an entry by its index
 
-above_at : {X : Type 0} (m : ℕ) (es : List (ℕ × X)) (i : ℕ) (d : ℕ × X) → Above m es → i < length es → m < (get_or es i d).0
+pub above_at : {X : Type 0} (m : ℕ) (es : List (ℕ × X)) (i : ℕ) (d : ℕ × X) → Above m es → i < length es → m < (get_or es i d).0
 above_at m [] i d over lt = absurd (omega arith)
 above_at m (e ∷ es) zero d over lt = over.0
 above_at m (e ∷ es) (suc i) d over lt = above_at m es i d over.1 (omega arith)

@@ -28,6 +28,10 @@ changed_at number change entries = map (λ e. (e.0, (if number == e.0 then chang
 abbrev pub first_number : {X : Type 0} → List (ℕ × X) → Option ℕ
 first_number entries = option_map (λ e. e.0) (slice_get entries 0)
 
+-- the first entry above this number
+abbrev pub first_above : {X : Type 0} → ℕ → List (ℕ × X) → Option (ℕ × X)
+first_above after entries = find (λ e. nat_lt after e.0) entries
+
 -- the least number above this one
 abbrev pub next_number : {X : Type 0} → ℕ → List (ℕ × X) → Option ℕ
 next_number after entries = number_of_first (λ e. nat_lt after e.0) entries

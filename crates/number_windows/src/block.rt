@@ -1,8 +1,8 @@
 //! A few entries that stand side by side, with ascending numbers.
 
-ghost use Rattle.std.specs.Prelude.{◌≡◌, ℕ, ◌<◌, ◌≤◌, length, take, remove, slice_index_or, Some, None, IsSome, IfSome, IfNone, IfOk, IfErr, option_copied};
+ghost use Rattle.std.specs.Prelude.{◌≡◌, ℕ, ◌<◌, ◌≤◌, length, take, remove, slice_index_or, true, Some, None, IsSome, IfSome, IfNone, IfOk, IfErr, option_copied};
 ghost use Rattle.std.specs.VecDeque.{deque_len, deque_capacity};
-ghost use Rattle.number_windows.specs.Numbered.{at, without, changed_at, next_number, Below, Ascending};
+ghost use Rattle.number_windows.specs.Numbered.{at, without, changed_at, first_above, Below, Ascending};
 
 use std::collections::VecDeque;
 use std::mem;
@@ -131,14 +131,36 @@ pub fn put_in<T: Drop>(block: &mut VecDeque<(u64, T)>, number: u64, value: T) ->
     }
 }
 
-/// The least number above `after`.
-pub fn next_in<T>(block: &VecDeque<(u64, T)>, after: u64) -> Option<u64>
-    ensures { result ≡ next_number after block.now.items }
+/// The first entry above `after`.
+pub fn first_above<T>(block: &VecDeque<(u64, T)>, after: u64) -> Option<&(u64, T)>
+    requires { Ascending block.now.items }
+    ensures { option_copied result ≡ first_above after block.now.items }
 {
-    for (number, _) in block {
-        if after < *number {
-            return Some(*number);
+    match guess(block, after) {
+        Some(index) => block.get(index + 1),
+        None => search_above(block, after),
+    }
+}
+
+/// The same of a block in any order.
+pub fn search_above<T>(block: &VecDeque<(u64, T)>, after: u64) -> Option<&(u64, T)>
+    ensures { option_copied result ≡ first_above after block.now.items }
+{
+    for entry in block {
+        if after < entry.0 {
+            return Some(entry);
         }
     }
     None
+}
+
+/// Whether the first entry has this number or a smaller one.
+pub fn begins_up_to<T>(block: &VecDeque<(u64, T)>, number: u64) -> bool
+    ensures { result ≡ true → (0 < length block.now.items) ×
+        ((d : ℕ × T) → (slice_index_or block.now.items 0 d).0 ≤ number) }
+{
+    match block.front() {
+        Some((first, _)) => *first <= number,
+        None => false,
+    }
 }

@@ -1,5 +1,5 @@
 ghost use Rattle.std.specs.Prelude.{◌≡◌, ◌<◌, ◌^◌, ◌-◌, ◌++◌, ◌∷◌, [], length, true, Some, None, OnOk, IfOk, IfErr, option_copied};
-ghost use Rattle.number_windows.specs.Numbered.{at, without, changed_at, first_number, next_number, Below};
+ghost use Rattle.number_windows.specs.Numbered.{at, without, changed_at, first_number, first_above, next_number, Below};
 
 use crate::block;
 use crate::pages::Pages;
@@ -189,9 +189,23 @@ impl<T: Drop> NumberWindow<T> {
         requires { IsWindow self.now }
         ensures { result ≡ next_number after (window_entries self.now) }
     {
-        match self.older.next(after) {
-            Some(number) => Some(number),
-            None => block::next_in(&self.recent, after),
+        match self.first_above(after) {
+            Some((number, _)) => Some(*number),
+            None => None,
+        }
+    }
+
+    /// The first entry above `after`. In a walk from entry to entry few are looked at twice.
+    pub fn first_above(&self, after: u64) -> Option<&(u64, T)>
+        requires { IsWindow self.now }
+        ensures { option_copied result ≡ first_above after (window_entries self.now) }
+    {
+        if block::begins_up_to(&self.recent, after) {
+            return block::first_above(&self.recent, after);
+        }
+        match self.older.first_above(after) {
+            Some(entry) => Some(entry),
+            None => block::first_above(&self.recent, after),
         }
     }
 }

@@ -1,5 +1,5 @@
 ghost use Rattle.std.specs.Prelude.{◌≡◌, ◌<◌, ◌/◌, ◌++◌, ◌∷◌, [], Some, None, OnOk, OnErr, IfOk, IfErr, option_copied};
-ghost use Rattle.number_windows.specs.Numbered.{at, without, changed_at, first_number, next_number, Below};
+ghost use Rattle.number_windows.specs.Numbered.{at, without, changed_at, first_number, first_above, Below};
 
 use crate::block;
 use std::alloc::Global;
@@ -154,15 +154,30 @@ impl<T: Drop> Pages<T> {
         }
     }
 
-    /// The least number above `after`.
-    pub fn next(&self, after: u64) -> Option<u64>
+    /// The first entry above `after`.
+    pub fn first_above(&self, after: u64) -> Option<&(u64, T)>
         requires { IsPages self.now }
-        ensures { result ≡ next_number after (page_entries self.now) }
+        ensures { option_copied result ≡ first_above after (page_entries self.now) }
+    {
+        if self.pages.is_empty() {
+            return None;
+        }
+        if let Some(block) = self.pages.get(&(after / PAGE)) {
+            if let Some(entry) = block::first_above(block, after) {
+                return Some(entry);
+            }
+        }
+        self.search_above(after)
+    }
+
+    fn search_above(&self, after: u64) -> Option<&(u64, T)>
+        requires { IsPages self.now }
+        ensures { option_copied result ≡ first_above after (page_entries self.now) }
     {
         let from = (Bound::Included(after / PAGE), Bound::Unbounded);
         for (_, block) in self.pages.range(from) {
-            if let Some(number) = block::next_in(block, after) {
-                return Some(number);
+            if let Some(entry) = block::search_above(block, after) {
+                return Some(entry);
             }
         }
         None

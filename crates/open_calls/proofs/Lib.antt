@@ -1,5 +1,6 @@
 pub mod Ids
 pub mod Listed
+pub mod Newest
 pub mod Numbered
 pub mod Own
 pub mod Pairs

@@ -1,15 +1,16 @@
 -- The indexes of our calls after a change, and the state that is seen.
-use Rattle.std.proofs.Common.{◌≡◌, ℕ, ◌+◌, ◌-◌, ◌<◌, ◌≤◌, ◌==◌, ◌&&◌, Bool, true, false, cond, if◌then◌else◌, List, Option, Some, None, MatchOption, refl, ap, sym, ◌∙◌, arith, subst, not, ◌⊎◌, inl, inr, nat_lt, nat_le, zero, suc, ◌++◌, ◌∷◌, [], append_assoc}
+use Rattle.std.proofs.Common.{◌≡◌, ℕ, ◌+◌, ◌-◌, ◌<◌, ◌≤◌, ◌==◌, ◌&&◌, Bool, true, false, cond, if◌then◌else◌, List, Option, Some, None, MatchOption, refl, ap, sym, ◌∙◌, arith, not, inl, inr, nat_lt, nat_le, zero, suc, ◌++◌, ◌∷◌, [], append_assoc}
 use Rattle.std.proofs.lemmas.List.{append-nil}
 use Rattle.std.proofs.lemmas.List.Elements.{filter-append}
-use Rattle.std.proofs.lemmas.Bool.{eqb-true, ltb-true, ltb-false, lt-ltb}
+use Rattle.std.proofs.lemmas.Bool.{eqb-true, ltb-true, lt-ltb, leb-true, leb-false}
 use Rattle.std.specs.Option.{option_map, option_map_or}
 use Rattle.open_calls.specs.declared.own_call.OwnCall.{OwnCall}
 use Rattle.open_calls.specs.declared.keys_by_caller.KeysByCaller.{KeysByCaller}
 use Rattle.number_windows.specs.Numbered.{at, up_to, Above, Below, Ascending}
 use Rattle.open_calls.specs.Own.{OwnState, is_wanted_by, next_wanted, new_call, new_calls}
-use Rattle.open_calls.specs.Inner.{has_key, is_of, passes, IsKeyIndex}
-use Rattle.number_windows.proofs.Numbered.{at_below, below_more, find_none, find_first, above_push, up_to_all, up_to_above}
+use Rattle.open_calls.specs.Inner.{has_key, is_of, passes, IsNext, IsKeyIndex}
+use Rattle.number_windows.proofs.Numbered.{find_none, find_first, above_push, up_to_all, up_to_above}
+use Rattle.open_calls.proofs.Newest.{either, passing, passed_over, at_up_to, older_changes, newer_changes}
 
 abbrev pub state_of : ℕ → List (ℕ × OwnCall) → OwnState
 state_of made waiting = record { made = made; waiting = waiting }
@@ -37,16 +38,43 @@ index_gone old new was now key call has index changes is =
     ∙ gone_step (call.caller == c) (key == k) (has_key old c k) (at k was) None (is_of c) (index c k) refl (λ here apart. passes_at (is_of c) key k call was is here ∙ apart)
     ∙ ap (passes (is_of c)) (sym (changes k))
 
+index_kept : (old new : KeysByCaller) (was now : List (ℕ × OwnCall)) → ((c k : ℕ) → has_key new c k ≡ has_key old c k) → IsKeyIndex old was
+    → ((k : ℕ) → at k now ≡ at k was) → IsKeyIndex new now
+index_kept old new was now kept is same = λ c k. kept c k ∙ is c k ∙ ap (passes (is_of c)) (sym (same k))
+
+pub index_seen : (index : KeysByCaller) (was now : List (ℕ × OwnCall)) → IsKeyIndex index was → ((k : ℕ) → at k now ≡ at k was) → IsKeyIndex index now
+index_seen index was now is same = index_kept index index was now (λ c k. refl) is same
+
+-- it is in the index if it is up to a number
+pub forgotten : (old new : KeysByCaller) (m : ℕ) (es now : List (ℕ × OwnCall)) (key : ℕ) (call : OwnCall)
+    → (key ≤ m → (c k : ℕ) → has_key new c k ≡ (if (call.caller == c) && (key == k) then false else has_key old c k))
+    → (m < key → (c k : ℕ) → has_key new c k ≡ has_key old c k)
+    → IsKeyIndex old (up_to m es) → ((k : ℕ) → at k now ≡ cond (key == k) None (at k es)) → at key es ≡ Some call → IsKeyIndex new (up_to m now)
+forgotten old new m es now key call older newer index changes there =
+    elim (either (nat_le key m)) [
+      | inl within ↦ index_gone old new (up_to m es) (up_to m now) key call (older (leb-true key m within)) index
+          (older_changes m key None es now (leb-true key m within) changes)
+          (at_up_to m key es ∙ ap (λ b. cond b (at key es) None) within ∙ there)
+      | inr past ↦ index_kept old new (up_to m es) (up_to m now) (newer (leb-false key m past)) index (newer_changes m key None es now (leb-false key m past) changes)
+    ]
+
 -- ---- an entry is changed, and its key stays
 
 same_step : (here : Bool) (o : Option OwnCall) (w : OwnCall) (p : OwnCall → Bool) → (here ≡ true → passes p o ≡ p w) → passes p o ≡ passes p (cond here (Some w) o)
 same_step true o w p is = is refl
 same_step false o w p is = refl
 
-pub index_same : (index : KeysByCaller) (was now : List (ℕ × OwnCall)) (key : ℕ) (call changed : OwnCall)
-    → IsKeyIndex index was → ((k : ℕ) → at k now ≡ cond (key == k) (Some changed) (at k was)) → at key was ≡ Some call → changed.caller ≡ call.caller → IsKeyIndex index now
-index_same index was now key call changed is changes there same =
-    λ c k. is c k ∙ same_step (key == k) (at k was) changed (is_of c) (λ here. passes_at (is_of c) key k call was there here ∙ ap (λ n. n == c) (sym same)) ∙ ap (passes (is_of c)) (sym (changes k))
+same_within : (b : Bool) (o w : Option OwnCall) (p : OwnCall → Bool) → passes p o ≡ passes p w → passes p (cond b o None) ≡ passes p (cond b w None)
+same_within true o w p is = is
+same_within false o w p is = refl
+
+pub index_same : (index : KeysByCaller) (m : ℕ) (was now : List (ℕ × OwnCall)) (key : ℕ) (call changed : OwnCall)
+    → IsKeyIndex index (up_to m was) → ((k : ℕ) → at k now ≡ cond (key == k) (Some changed) (at k was)) → at key was ≡ Some call → changed.caller ≡ call.caller → IsKeyIndex index (up_to m now)
+index_same index m was now key call changed is changes there same =
+    λ c k. is c k ∙ ap (passes (is_of c)) (at_up_to m k was)
+    ∙ same_within (nat_le k m) (at k was) (at k now) (is_of c)
+    (same_step (key == k) (at k was) changed (is_of c) (λ here. passes_at (is_of c) key k call was there here ∙ ap (λ n. n == c) (sym same)) ∙ ap (passes (is_of c)) (sym (changes k)))
+    ∙ ap (passes (is_of c)) (sym (at_up_to m k now))
 
 -- ---- a key comes
 
@@ -87,12 +115,6 @@ pub both_false : (a b : Bool) → (a ≡ true → b ≡ false) → (a && b) ≡ 
 both_false true b is = is refl
 both_false false b is = refl
 
-abbrev pub IsNext : KeysByCaller → ℕ → ℕ → Option ℕ → Type 0
-IsNext index caller after result =
-    MatchOption result
-    ((k : ℕ) → after < k → has_key index caller k ≡ false)
-    (λ key. (after < key) × (has_key index caller key ≡ true) × ((k : ℕ) → after < k → k < key → has_key index caller k ≡ false))
-
 -- no call of the caller above the first key is wanted whose key is below the second; where there is none, none is
 abbrev pub IsPassed : List (ℕ × OwnCall) → ℕ → ℕ → Option ℕ → Type 0
 IsPassed es caller after result =
@@ -103,13 +125,6 @@ IsPassed es caller after result =
 abbrev pub is_withdrawn_in : Option OwnCall → Bool
 is_withdrawn_in o = passes (λ call. call.is_withdrawn) o
 
-either : (b : Bool) → (b ≡ true) ⊎ (b ≡ false)
-either true = inl refl
-either false = inr refl
-
-between : (a b : ℕ) → a ≤ b → b ≤ a → a ≡ b
-between a b le ge = omega arith
-
 unwanted : (caller : ℕ) (o : Option OwnCall) → passes (is_of caller) o ≡ false → passes (is_wanted_by caller) o ≡ false
 unwanted caller None is = refl
 unwanted caller (Some call) is = ap (λ b. b && not call.is_withdrawn) is
@@ -119,39 +134,20 @@ withdrawn_unwanted caller None is = refl
 withdrawn_unwanted caller (Some call) is = ap (λ b. (call.caller == caller) && not b) is ∙ and_false (call.caller == caller)
 
 -- the next one of a caller has passed none
-pub first_passed : (index : KeysByCaller) (es : List (ℕ × OwnCall)) (caller after : ℕ) (r : Option ℕ) → IsKeyIndex index es → IsNext index caller after r → IsPassed es caller after r
-first_passed index es caller after None is next = λ k over. unwanted caller (at k es) (sym (is caller k) ∙ next k over)
-first_passed index es caller after (Some key) is next =
-    (next.0, sym (is caller key) ∙ next.1, λ k over under. unwanted caller (at k es) (sym (is caller k) ∙ next.2 k over under))
-
--- one that is withdrawn is passed
-passed_over : (es : List (ℕ × OwnCall)) (caller after key k : ℕ) → ((k : ℕ) → after < k → k < key → passes (is_wanted_by caller) (at k es) ≡ false) → is_withdrawn_in (at key es) ≡ true
-    → (key < k → passes (is_wanted_by caller) (at k es) ≡ false) → after < k → passes (is_wanted_by caller) (at k es) ≡ false
-passed_over es caller after key k under gone above over =
-    elim (either (nat_lt k key)) [
-      | inl less ↦ under k over (ltb-true k key less)
-      | inr more ↦ elim (either (nat_lt key k)) [
-        | inl less ↦ above (ltb-true key k less)
-        | inr same ↦ subst (λ n. passes (is_wanted_by caller) (at n es) ≡ false) (between key k (ltb-false k key more) (ltb-false key k same)) (withdrawn_unwanted caller (at key es) gone)
-      ]
-    ]
+pub first_passed : (es : List (ℕ × OwnCall)) (caller after : ℕ) (r : Option ℕ) → IsNext (passing (is_of caller) es) after r → IsPassed es caller after r
+first_passed es caller after None next = λ k over. unwanted caller (at k es) (next k over)
+first_passed es caller after (Some key) next = (next.0, next.1, λ k over under. unwanted caller (at k es) (next.2 k over under))
 
 pub more_passed : (es : List (ℕ × OwnCall)) (caller after key : ℕ) (r : Option ℕ) → IsPassed es caller after (Some key) → is_withdrawn_in (at key es) ≡ true → IsPassed es caller key r → IsPassed es caller after r
-more_passed es caller after key None was gone next = λ k over. passed_over es caller after key k was.2 gone (λ above. next k above) over
-more_passed es caller after key (Some more) was gone next =
-    (omega (arith, was.0, next.0), next.1, λ k over under. passed_over es caller after key k was.2 gone (λ above. next.2 k above under) over)
+more_passed es caller after key None was gone next =
+    λ k over. passed_over (passing (is_wanted_by caller) es) after key k was.2 (withdrawn_unwanted caller (at key es) gone) (λ above. next k above) over
+more_passed es caller after key (Some more) was gone next = (
+  omega (arith, was.0, next.0),
+  next.1,
+  λ k over under. passed_over (passing (is_wanted_by caller) es) after key k was.2 (withdrawn_unwanted caller (at key es) gone) (λ above. next.2 k above under) over,
+)
 
 -- what is passed has fewer keys behind it
-
-none_some : {X : Type 0} (x : X) → None ≡ Some x → ⊥
-none_some x is = cc
-
-pub key_within : (n key : ℕ) (call : OwnCall) (es : List (ℕ × OwnCall)) → Below n es → at key es ≡ Some call → key < n
-key_within n key call es under there =
-    elim (either (nat_lt key n)) [
-      | inl less ↦ ltb-true key n less
-      | inr more ↦ absurd (none_some call (sym (at_below key es (below_more n key es (ltb-false key n more) under)) ∙ there))
-    ]
 
 pub fewer_behind : (es : List (ℕ × OwnCall)) (caller made key : ℕ) (r : Option ℕ) → key < suc made → IsPassed es caller key r → option_map_or (λ k. suc made - k) r 0 < suc made - key
 fewer_behind es caller made key None within passed = omega (arith, within)

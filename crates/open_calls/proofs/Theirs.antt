@@ -1,17 +1,20 @@
 -- The index of the other side's calls after a change, and the state that is seen.
-use Rattle.std.proofs.Common.{◌≡◌, ℕ, ◌<◌, ◌≤◌, ◌==◌, ◌&&◌, not, Bool, true, false, cond, if◌then◌else◌, List, Option, Some, None, refl, ap, sym, subst, ◌∙◌, nat_le}
-use Rattle.std.proofs.lemmas.Bool.{eqb-true, leb-true, le-leb}
+use Rattle.std.proofs.Common.{◌≡◌, ℕ, suc, ◌<◌, ◌≤◌, ◌==◌, ◌&&◌, not, Bool, true, false, cond, if◌then◌else◌, List, Option, Some, None, refl, ap, sym, ◌∙◌, inl, inr, nat_le, min}
+use Rattle.std.proofs.lemmas.Bool.{eqb-true, leb-true, leb-false, le-leb}
 use Rattle.std.specs.Option.{option_map}
+use Rattle.std.specs.List.{find}
 use Rattle.message_ids.specs.declared.id.Id.{Id}
 use Rattle.message_ids.specs.Ids.{same_id, has_id}
 use Rattle.message_ids.proofs.Ids.{same-is}
 use Rattle.open_calls.specs.declared.their_call.TheirCall.{TheirCall}
 use Rattle.open_calls.specs.declared.numbers_by_id.NumbersById.{NumbersById}
-use Rattle.number_windows.specs.Numbered.{at, up_to, number_of_first, Ascending}
+use Rattle.number_windows.specs.Numbered.{at, up_to, changed_at, Below, Ascending}
 use Rattle.open_calls.specs.Theirs.{TheirState, is_reached, reached, cancelled}
-use Rattle.open_calls.specs.Inner.{is_listed, passes, IsNumberIndex, IsWithNumber, IsWithoutNumber}
+use Rattle.open_calls.specs.Inner.{is_listed, passes, IsNumberIndex}
 use Rattle.number_windows.proofs.Numbered.{find_none, find_first, find_among}
-use Rattle.open_calls.proofs.Own.{gone_step, come_step, passes_at, and_true, and_false, false_and, some_of, both_false}
+use Rattle.number_windows.proofs.Rows.{at_replaced}
+use Rattle.open_calls.proofs.Newest.{either, at_up_to, older_changes, newer_changes, up_to_least}
+use Rattle.open_calls.proofs.Own.{gone_step, come_step, passes_at, and_false, false_and, some_of, both_false}
 
 abbrev pub state_of : ℕ → List (ℕ × TheirCall) → TheirState
 state_of came calls = record { came = came; calls = calls }
@@ -19,7 +22,21 @@ state_of came calls = record { came = came; calls = calls }
 pub same_calls : (came : ℕ) (es fs : List (ℕ × TheirCall)) → es ≡ fs → state_of came es ≡ state_of came fs
 same_calls came es fs is = ap (λ calls. state_of came calls) is
 
-pub number_gone : (old new : NumbersById) (was now : List (ℕ × TheirCall)) (number : ℕ) (call : TheirCall) → IsWithoutNumber new old call.id number
+-- ---- the index
+
+pub index_seen : (index : NumbersById) (was now : List (ℕ × TheirCall)) → IsNumberIndex index was → ((k : ℕ) → at k now ≡ at k was) → IsNumberIndex index now
+index_seen index was now is same = λ id k. is id k ∙ ap (passes (is_reached id)) (sym (same k))
+
+index_kept : (old new : NumbersById) (was now : List (ℕ × TheirCall)) → ((q : Id) (k : ℕ) → is_listed new q k ≡ is_listed old q k) → IsNumberIndex old was
+    → ((k : ℕ) → at k now ≡ at k was) → IsNumberIndex new now
+index_kept old new was now kept is same = λ id k. kept id k ∙ index_seen old was now is same id k
+
+-- no call is behind a number
+pub index_least : (index : NumbersById) (m n : ℕ) (es : List (ℕ × TheirCall)) → Below (suc n) es → IsNumberIndex index (up_to m es) → IsNumberIndex index (up_to (min m n) es)
+index_least index m n es under is = index_seen index (up_to m es) (up_to (min m n) es) is (up_to_least m n es under)
+
+pub number_gone : (old new : NumbersById) (was now : List (ℕ × TheirCall)) (number : ℕ) (call : TheirCall)
+    → ((q : Id) (k : ℕ) → is_listed new q k ≡ (if has_id q call.id && (number == k) then false else is_listed old q k))
     → IsNumberIndex old was → ((k : ℕ) → at k now ≡ cond (number == k) None (at k was)) → at number was ≡ Some call → IsNumberIndex new now
 number_gone old new was now number call has index changes there =
     λ id k. has id k
@@ -27,12 +44,24 @@ number_gone old new was now number call has index changes there =
     (λ here apart. passes_at (is_reached id) number k call was there here ∙ false_and (has_id id call.id) (not call.is_cancelled) apart)
     ∙ ap (passes (is_reached id)) (sym (changes k))
 
-pub number_come : (old new : NumbersById) (was now : List (ℕ × TheirCall)) (number : ℕ) (call : TheirCall) → IsWithNumber new old call.id number
-    → IsNumberIndex old was → ((k : ℕ) → at k now ≡ cond (number == k) (Some call) (at k was)) → at number was ≡ None → call.is_cancelled ≡ false → IsNumberIndex new now
-number_come old new was now number call has index changes none fresh =
+pub forgotten : (old new : NumbersById) (m : ℕ) (es now : List (ℕ × TheirCall)) (number : ℕ) (call : TheirCall)
+    → (number ≤ m → (q : Id) (k : ℕ) → is_listed new q k ≡ (if has_id q call.id && (number == k) then false else is_listed old q k))
+    → (m < number → (q : Id) (k : ℕ) → is_listed new q k ≡ is_listed old q k)
+    → IsNumberIndex old (up_to m es) → ((k : ℕ) → at k now ≡ cond (number == k) None (at k es)) → at number es ≡ Some call → IsNumberIndex new (up_to m now)
+forgotten old new m es now number call older newer index changes there =
+    elim (either (nat_le number m)) [
+      | inl within ↦ number_gone old new (up_to m es) (up_to m now) number call (older (leb-true number m within)) index
+          (older_changes m number None es now (leb-true number m within) changes)
+          (at_up_to m number es ∙ ap (λ b. cond b (at number es) None) within ∙ there)
+      | inr past ↦ index_kept old new (up_to m es) (up_to m now) (newer (leb-false number m past)) index (newer_changes m number None es now (leb-false number m past) changes)
+    ]
+
+pub number_come : (old new : NumbersById) (was now : List (ℕ × TheirCall)) (number : ℕ) (call : TheirCall)
+    → ((q : Id) (k : ℕ) → is_listed new q k ≡ (if is_reached q call && (number == k) then true else is_listed old q k))
+    → IsNumberIndex old was → ((k : ℕ) → at k now ≡ cond (number == k) (Some call) (at k was)) → at number was ≡ None → IsNumberIndex new now
+number_come old new was now number call has index changes none =
     λ id k. has id k
-    ∙ come_step (has_id id call.id) (number == k) (is_listed old id k) (at k was) call (is_reached id) (index id k)
-    (ap (λ b. has_id id call.id && not b) fresh ∙ and_true (has_id id call.id))
+    ∙ come_step (is_reached id call) (number == k) (is_listed old id k) (at k was) call (is_reached id) (index id k) refl
     (λ here. ap (λ n. at n was) (sym (eqb-true number k here)) ∙ none)
     ∙ ap (passes (is_reached id)) (sym (changes k))
 
@@ -56,31 +85,40 @@ number_reached old new was now number id call has index changes there is =
     ∙ false_and (has_id q call.id) (not call.is_cancelled) (same_other call.id id q (and_left (has_id id call.id) (not call.is_cancelled) is) apart))
     ∙ ap (passes (is_reached q)) (sym (changes k))
 
-unreached : (index : NumbersById) (es : List (ℕ × TheirCall)) (id : Id) (n : ℕ) (x : TheirCall) → IsNumberIndex index es → at n es ≡ Some x → is_listed index id n ≡ false → is_reached id x ≡ false
-unreached index es id n x is there none = ap (passes (is_reached id)) (sym there) ∙ sym (is id n) ∙ none
+pub reached_gone : (old new : NumbersById) (m : ℕ) (es now : List (ℕ × TheirCall)) (number : ℕ) (id : Id)
+    → (number ≤ m → (q : Id) (k : ℕ) → is_listed new q k ≡ (if same_id id q && (number == k) then false else is_listed old q k))
+    → (m < number → (q : Id) (k : ℕ) → is_listed new q k ≡ is_listed old q k)
+    → IsNumberIndex old (up_to m es) → now ≡ changed_at number cancelled es → passes (is_reached id) (at number es) ≡ true → IsNumberIndex new (up_to m now)
+reached_gone old new m es now number id older newer index is reached =
+    let found = some_of (is_reached id) (at number es) reached in
+    let call = found.0 in
+    let changes = at_replaced number cancelled call es now is found.1 in
+    elim (either (nat_le number m)) [
+      | inl within ↦ number_reached old new (up_to m es) (up_to m now) number id call (older (leb-true number m within)) index
+          (older_changes m number (Some (cancelled call)) es now (leb-true number m within) changes)
+          (at_up_to m number es ∙ ap (λ b. cond b (at number es) None) within ∙ found.1) found.2
+      | inr past ↦ index_kept old new (up_to m es) (up_to m now) (newer (leb-false number m past)) index
+          (newer_changes m number (Some (cancelled call)) es now (leb-false number m past) changes)
+    ]
 
-pub reached_some : (index : NumbersById) (es : List (ℕ × TheirCall)) (id : Id) (number : ℕ) (call : TheirCall) → Ascending es → IsNumberIndex index es → at number es ≡ Some call
-    → is_listed index id number ≡ true → ((k : ℕ) → k < number → is_listed index id k ≡ false) → Some number ≡ reached id es
-reached_some index es id number call order is there listed least =
-    sym (ap (λ o. option_map (λ e. e.0) o) (find_first (λ e. is_reached id e.1) number call es order there
-    (ap (passes (is_reached id)) (sym there) ∙ sym (is id number) ∙ listed)
-    (λ n y under it. unreached index es id n y is it (least n under))))
+-- ---- the first that a cancel can reach
 
-reached_among : (id : Id) (most : ℕ) (es : List (ℕ × TheirCall)) → reached id (up_to most es) ≡ number_of_first (λ e. nat_le e.0 most && is_reached id e.1) es
+abbrev pub can_reach : Id → List (ℕ × TheirCall) → ℕ → Bool
+can_reach id es k = passes (is_reached id) (at k es)
+
+reached_among : (id : Id) (most : ℕ) (es : List (ℕ × TheirCall)) → reached id (up_to most es) ≡ option_map (λ e. e.0) (find (λ e. nat_le e.0 most && is_reached id e.1) es)
 reached_among id most es = ap (λ o. option_map (λ e. e.0) o) (find_among (λ (e : ℕ × TheirCall). is_reached id e.1) (λ e. nat_le e.0 most) es)
 
-pub none_up_to : (index : NumbersById) (came : ℕ) (es : List (ℕ × TheirCall)) (state : TheirState) (id : Id) (most : ℕ) → state_of came es ≡ state → Ascending es → IsNumberIndex index es
-    → ((k : ℕ) → k ≤ most → is_listed index id k ≡ false) → None ≡ reached id (up_to most state.calls)
-none_up_to index came es state id most seen order is none =
-    subst (λ (s : TheirState). None ≡ reached id (up_to most s.calls)) seen (sym (reached_among id most es ∙ ap (λ o. option_map (λ e. e.0) o) (find_none (λ e. nat_le e.0 most && is_reached id e.1) es order
-    (λ n x there. both_false (nat_le n most) (is_reached id x) (λ within. unreached index es id n x is there (none n (leb-true n most within)))))))
+pub none_up_to : (es : List (ℕ × TheirCall)) (id : Id) (most : ℕ) → Ascending es → ((k : ℕ) → k ≤ most → can_reach id es k ≡ false) → None ≡ reached id (up_to most es)
+none_up_to es id most order none =
+    sym (reached_among id most es ∙ ap (λ o. option_map (λ e. e.0) o) (find_none (λ e. nat_le e.0 most && is_reached id e.1) es order
+    (λ n x there. both_false (nat_le n most) (is_reached id x) (λ within. ap (passes (is_reached id)) (sym there) ∙ none n (leb-true n most within)))))
 
 -- the first of all, where its number is at most this one
-pub first_up_to : (index : NumbersById) (came : ℕ) (es : List (ℕ × TheirCall)) (state : TheirState) (id : Id) (number most : ℕ) → state_of came es ≡ state → Ascending es → IsNumberIndex index es
-    → number ≤ most → is_listed index id number ≡ true → ((k : ℕ) → k < number → is_listed index id k ≡ false) → reached id state.calls ≡ reached id (up_to most state.calls)
-first_up_to index came es state id number most seen order is within listed least =
-    let found = some_of (is_reached id) (at number es) (sym (is id number) ∙ listed) in
-    subst (λ (s : TheirState). reached id s.calls ≡ reached id (up_to most s.calls)) seen (sym (reached_some index es id number found.0 order is found.1 listed least)
-    ∙ sym (reached_among id most es ∙ ap (λ o. option_map (λ e. e.0) o) (find_first (λ e. nat_le e.0 most && is_reached id e.1) number found.0 es order found.1
+pub first_up_to : (es : List (ℕ × TheirCall)) (id : Id) (number most : ℕ) → Ascending es → number ≤ most → can_reach id es number ≡ true → ((k : ℕ) → k < number → can_reach id es k ≡ false)
+    → Some number ≡ reached id (up_to most es)
+first_up_to es id number most order within is least =
+    let found = some_of (is_reached id) (at number es) is in
+    sym (reached_among id most es ∙ ap (λ o. option_map (λ e. e.0) o) (find_first (λ e. nat_le e.0 most && is_reached id e.1) number found.0 es order found.1
     (ap (λ b. b && is_reached id found.0) (le-leb number most within) ∙ found.2)
-    (λ n y under it. both_false (nat_le n most) (is_reached id y) (λ _. unreached index es id n y is it (least n under))))))
+    (λ n y under it. both_false (nat_le n most) (is_reached id y) (λ _. ap (passes (is_reached id)) (sym it) ∙ least n under))))

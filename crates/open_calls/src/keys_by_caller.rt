@@ -45,6 +45,9 @@ impl KeysByCaller {
             (λ key. (after < key) × (has_key self.now caller key ≡ true) ×
             ((k : ℕ) → after < k → k < key → has_key self.now caller k ≡ false)) }
     {
+        if self.pairs.is_empty() {
+            return None;
+        }
         let pairs = (Bound::Excluded((caller, after)), Bound::Unbounded);
         match self.pairs.range(pairs).next() {
             Some((of, key)) if *of == caller => Some(*key),

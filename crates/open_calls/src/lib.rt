@@ -10,7 +10,6 @@ mod numbers_by_id;
 mod other_numbers;
 mod own_call;
 mod own_calls;
-mod scattered_numbers;
 mod their_call;
 mod their_calls;
 

@@ -3,7 +3,7 @@ ghost use Rattle.message_ids.specs.declared.id.Id.{Id};
 ghost use Rattle.message_ids.specs.Ids.{same_id};
 
 use crate::ascending_ids::AscendingIds;
-use crate::scattered_numbers::ScatteredNumbers;
+use crate::other_numbers::OtherNumbers;
 use message_ids::Id;
 use std::alloc::{AllocError, Global};
 
@@ -13,7 +13,7 @@ pub struct NumbersById {
     /// Those whose ids came as ascending numbers.
     ascending: AscendingIds,
     /// All others.
-    others: ScatteredNumbers,
+    others: OtherNumbers,
 }
 
 impl NumbersById {
@@ -24,7 +24,7 @@ impl NumbersById {
     {
         NumbersById {
             ascending: AscendingIds::new(alloc),
-            others: ScatteredNumbers::new(alloc),
+            others: OtherNumbers::new(alloc),
         }
     }
 

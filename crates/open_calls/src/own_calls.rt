@@ -1,7 +1,8 @@
 ghost use Rattle.std.specs.Prelude.{◌≡◌, ℕ, ◌==◌, ◌&&◌, true, false, if◌then◌else◌, ◌+◌, ◌-◌, ◌<◌, ◌≤◌, ◌^◌, ◌++◌, ◌∷◌, [], length, OnOk, OnErr, IfOk, MatchOption, Option, Some, None, is_some};
-ghost use Rattle.open_calls.specs.Inner.{passes};
+ghost use Rattle.open_calls.specs.Inner.{passes, has_key, is_of, IsNext, IsKeyIndex};
+ghost use Rattle.number_windows.specs.Windows.{window_entries, IsWindow};
 ghost use Rattle.open_calls.specs.declared.own_call.OwnCall.{OwnCall};
-ghost use Rattle.number_windows.specs.Numbered.{at, without, up_to, changed_at, Above, Ascending};
+ghost use Rattle.number_windows.specs.Numbered.{at, without, up_to, changed_at, Above, Below, Ascending};
 
 use crate::keys_by_caller::KeysByCaller;
 use crate::own_call::OwnCall;
@@ -10,15 +11,21 @@ use std::alloc::{AllocError, Global};
 use std::marker::Model;
 use std::mem;
 
+/// So many calls that were made last aren't in the index, so most have their reply before they cost a place there. They are
+/// looked through at the end of each call of the other side, and are few for that.
+const RECENT: u64 = 4;
+
 /// Our calls that wait for a reply. They have the keys 1, 2, .. in the order in which they were made.
 #[derive(Drop)]
 pub struct OwnCalls {
-    /// How many were made. `IsOwn` holds: no key is greater, and the index has just the keys of those that wait.
+    /// How many were made. `IsOwn` holds: no key is greater, and the index has just the keys that are said here.
     made: u64,
     /// Those that wait, by their keys.
     waiting: NumberWindow<OwnCall>,
-    /// Their keys, by their callers. An index of those that aren't withdrawn would make each call dearer, for the sake of a
-    /// cancel that passes over withdrawn ones; and what is cancelled ends them all.
+    /// The index has the calls up to this key. At most `RECENT` were made behind it.
+    indexed: u64,
+    /// The keys of those calls, by their callers. An index of those that aren't withdrawn would make each call dearer, for
+    /// the sake of a cancel that passes over withdrawn ones; and what is cancelled ends them all.
     by_caller: KeysByCaller,
 }
 
@@ -32,7 +39,7 @@ impl Model for OwnCalls {
 
     ghost view = { λ a. record { made = a.made; waiting = window_entries a.waiting } };
 
-    ghost invariant = { λ a. IsOwn a.made a.waiting a.by_caller };
+    ghost invariant = { λ a. IsOwn a.made a.waiting a.indexed a.by_caller };
 }
 
 impl OwnCalls {
@@ -44,6 +51,7 @@ impl OwnCalls {
         OwnCalls {
             made: 0,
             waiting: NumberWindow::new(alloc),
+            indexed: 0,
             by_caller: KeysByCaller::new(alloc),
         }
     }
@@ -95,7 +103,8 @@ impl OwnCalls {
     {
         let key = self.made + 1;
         self.waiting.make_room()?;
-        self.by_caller.add(caller, key)?;
+        let indexed = index_older(&mut self.by_caller, &self.waiting, self.indexed, self.made)?;
+        self.indexed = indexed;
         let call = OwnCall {
             caller,
             is_withdrawn: false,
@@ -126,6 +135,7 @@ impl OwnCalls {
         let key = self.made;
         self.remove(key);
         self.made = key - 1;
+        self.indexed = self.indexed.min(self.made);
     }
 
     /// The call with this key, where it waits.
@@ -153,7 +163,7 @@ impl OwnCalls {
         let Some(call) = self.waiting.remove(key) else {
             return false;
         };
-        self.by_caller.remove(call.caller, key);
+        forget(&mut self.by_caller, call.caller, key, self.indexed);
         true
     }
 
@@ -161,7 +171,7 @@ impl OwnCalls {
     pub fn end_caller(&mut self, caller: u64)
         ensures { self.new ≡ record self.old { waiting = without_caller caller self.old.waiting } }
     {
-        while let Some(key) = self.by_caller.next(caller, 0) {
+        while let Some(key) = self.next_key(caller, 0) {
             self.remove(key);
         }
     }
@@ -174,6 +184,7 @@ impl OwnCalls {
         let none = OwnCalls {
             made: self.made,
             waiting: NumberWindow::new(alloc),
+            indexed: self.made,
             by_caller: KeysByCaller::new(alloc),
         };
         mem::replace(self, none)
@@ -200,14 +211,27 @@ impl OwnCalls {
         ensures positive { Above 0 self.now.waiting }
         ensures ascending { Ascending self.now.waiting }
     {
-        let mut next = self.by_caller.next(caller, after);
+        let mut next = self.next_key(caller, after);
         while let Some(key) = next {
             if !self.is_withdrawn(key) {
                 break;
             }
-            next = self.by_caller.next(caller, key);
+            next = self.next_key(caller, key);
         }
         next
+    }
+
+    /// The least key above `after` of a call of this caller. Keys ascend, are above 0, and none is above the last.
+    fn next_key(&self, caller: u64, after: u64) -> Option<u64>
+        ensures next { IsNext (λ k. passes (is_of caller) (at k self.now.waiting)) after result }
+        ensures positive { Above 0 self.now.waiting }
+        ensures numbered { Below (self.now.made + 1) self.now.waiting }
+        ensures ascending { Ascending self.now.waiting }
+    {
+        match self.by_caller.next(caller, after) {
+            Some(key) => Some(key),
+            None => first_behind(&self.waiting, self.indexed.max(after), caller),
+        }
     }
 
     /// Whether the call with this key is withdrawn and waits.
@@ -218,5 +242,60 @@ impl OwnCalls {
             Some(call) => call.is_withdrawn,
             None => false,
         }
+    }
+}
+
+/// The least key above `after` of a call of this caller, one by one.
+fn first_behind(waiting: &NumberWindow<OwnCall>, after: u64, caller: u64) -> Option<u64>
+    requires { IsWindow waiting.now }
+    ensures { IsNext (λ k. passes (is_of caller) (at k (window_entries waiting.now))) after result }
+{
+    let mut after = after;
+    while let Some((key, call)) = waiting.first_above(after) {
+        if call.caller == caller {
+            return Some(*key);
+        }
+        after = *key;
+    }
+    None
+}
+
+/// Where `RECENT` calls aren't in the index, the oldest of them goes there. Answers up to which key they are there now.
+fn index_older(
+    by_caller: &mut KeysByCaller,
+    waiting: &NumberWindow<OwnCall>,
+    indexed: u64,
+    made: u64,
+) -> Result<u64, AllocError>
+    requires window { IsWindow waiting.now }
+    requires within { indexed ≤ made }
+    requires few { made ≤ indexed + 4 }
+    requires numbered { Below (made + 1) (window_entries waiting.now) }
+    requires index { IsKeyIndex by_caller.old (up_to indexed (window_entries waiting.now)) }
+    ensures ok { IfOk result (λ now. (now ≤ made) × (made < now + 4) ×
+        IsKeyIndex by_caller.new (up_to now (window_entries waiting.now))) }
+    ensures err { OnErr result (IsKeyIndex by_caller.new (up_to indexed (window_entries waiting.now))) }
+{
+    if made - indexed < RECENT {
+        return Ok(indexed);
+    }
+    match waiting.first_above(indexed) {
+        Some((next, call)) if *next == indexed + 1 => {
+            by_caller.add(call.caller, *next)?;
+            Ok(*next)
+        }
+        Some((next, _)) => Ok(*next - 1),
+        None => Ok(made),
+    }
+}
+
+/// Takes a key out of the index, where it is up to `indexed`.
+fn forget(by_caller: &mut KeysByCaller, caller: u64, key: u64, indexed: u64)
+    ensures older { key ≤ indexed → (c k : ℕ) → has_key by_caller.new c k ≡
+        (if (caller == c) && (key == k) then false else has_key by_caller.old c k) }
+    ensures newer { indexed < key → (c k : ℕ) → has_key by_caller.new c k ≡ has_key by_caller.old c k }
+{
+    if key <= indexed {
+        by_caller.remove(caller, key);
     }
 }

@@ -1,9 +1,10 @@
-ghost use Rattle.std.specs.Prelude.{◌≡◌, ℕ, ◌+◌, ◌-◌, ◌<◌, ◌≤◌, ◌^◌, ◌++◌, ◌∷◌, [], length, OnOk, OnErr, IfOk, Option, Some, None, MatchOption, option_copied};
+ghost use Rattle.std.specs.Prelude.{◌≡◌, ℕ, ◌==◌, ◌&&◌, true, false, if◌then◌else◌, ◌+◌, ◌-◌, ◌<◌, ◌≤◌, ◌^◌, ◌++◌, ◌∷◌, [], length, OnOk, OnErr, IfOk, Option, Some, None, option_copied};
 ghost use Rattle.number_windows.specs.Windows.{window_entries, IsWindow};
-ghost use Rattle.open_calls.specs.Theirs.{cancelled};
-ghost use Rattle.open_calls.specs.Inner.{is_listed, IsWithNumber, IsWithoutNumber};
+ghost use Rattle.open_calls.specs.Theirs.{cancelled, is_reached};
+ghost use Rattle.open_calls.specs.Inner.{is_listed, passes, IsFirst, IsNext, IsNumberIndex};
 ghost use Rattle.message_ids.specs.declared.id.Id.{Id};
-ghost use Rattle.number_windows.specs.Numbered.{at, without, up_to, changed_at, Ascending};
+ghost use Rattle.message_ids.specs.Ids.{has_id, same_id};
+ghost use Rattle.number_windows.specs.Numbered.{at, without, up_to, changed_at, Below, Ascending};
 
 use crate::numbers_by_id::NumbersById;
 use crate::their_call::TheirCall;
@@ -12,6 +13,10 @@ use number_windows::NumberWindow;
 use std::alloc::{AllocError, Global};
 use std::marker::Model;
 
+/// So many calls that came last aren't in the index. A cancel compares its id with theirs, so most calls are answered before
+/// they cost a place there.
+const RECENT: u64 = 128;
+
 /// The other side's calls that are open. They have the numbers 1, 2, .. in the order in which they came.
 #[derive(Drop)]
 pub struct TheirCalls {
@@ -19,7 +24,9 @@ pub struct TheirCalls {
     came: u64,
     /// Those that are open, by their numbers.
     calls: NumberWindow<TheirCall>,
-    /// The numbers of the requests that no cancel has reached.
+    /// The index has the calls up to this number. At most `RECENT` came behind it.
+    indexed: u64,
+    /// Of those calls the numbers of the requests that no cancel has reached.
     by_id: NumbersById,
 }
 
@@ -33,7 +40,7 @@ impl Model for TheirCalls {
 
     ghost view = { λ a. record { came = a.came; calls = window_entries a.calls } };
 
-    ghost invariant = { λ a. IsTheirs a.came a.calls a.by_id };
+    ghost invariant = { λ a. IsTheirs a.came a.calls a.indexed a.by_id };
 }
 
 impl TheirCalls {
@@ -45,6 +52,7 @@ impl TheirCalls {
         TheirCalls {
             came: 0,
             calls: NumberWindow::new(alloc),
+            indexed: 0,
             by_id: NumbersById::new(alloc),
         }
     }
@@ -78,7 +86,8 @@ impl TheirCalls {
     {
         let number = self.came + 1;
         self.calls.make_room()?;
-        note_id(&mut self.by_id, &id, number)?;
+        let indexed = index_older(&mut self.by_id, &self.calls, self.indexed, self.came)?;
+        self.indexed = indexed;
         let call = TheirCall {
             id,
             is_cancelled: false,
@@ -111,6 +120,7 @@ impl TheirCalls {
         let number = self.came;
         drop(self.close(number));
         self.came = number - 1;
+        self.indexed = self.indexed.min(self.came);
     }
 
     /// The call with this number, where it is open.
@@ -129,7 +139,7 @@ impl TheirCalls {
             Some(call) => call,
             None => return None,
         };
-        forget_id(&mut self.by_id, &call.id, number);
+        forget_call(&mut self.by_id, &call, number, self.indexed);
         Some(call)
     }
 
@@ -142,13 +152,23 @@ impl TheirCalls {
         } }
         ensures ascending { Ascending self.old.calls }
     {
-        let number = match self.by_id.least(id) {
+        let number = match self.first_with(id) {
             Some(number) if number <= most => number,
             _ => return None,
         };
         cancel(&mut self.calls, number);
-        self.by_id.remove(id, number);
+        forget(&mut self.by_id, id, number, self.indexed);
         Some(number)
+    }
+
+    /// The number of the first request with this id that no cancel has reached.
+    fn first_with(&self, id: &Id) -> Option<u64>
+        ensures { IsFirst (λ k. passes (is_reached id.now) (at k self.now.calls)) result }
+    {
+        match self.by_id.least(id) {
+            Some(number) => Some(number),
+            None => first_behind(&self.calls, self.indexed, id),
+        }
     }
 }
 
@@ -163,23 +183,93 @@ fn cancel(calls: &mut NumberWindow<TheirCall>, number: u64)
     }
 }
 
-/// Puts the number of a request into the index.
-fn note_id(by_id: &mut NumbersById, id: &Option<Id>, number: u64) -> Result<(), AllocError>
-    ensures ok { OnOk result (IsWithNumber by_id.new by_id.old id.now number) }
-    ensures err { OnErr result ((q : Id) (k : ℕ) →
-        is_listed by_id.new q k ≡ is_listed by_id.old q k) }
+/// The number of the first request behind `after` with this id that no cancel has reached.
+fn first_behind(calls: &NumberWindow<TheirCall>, after: u64, id: &Id) -> Option<u64>
+    requires { IsWindow calls.now }
+    ensures { IsNext (λ k. passes (is_reached id.now) (at k (window_entries calls.now))) after result }
 {
-    match id {
-        Some(id) => by_id.add(id, number),
-        None => Ok(()),
+    let mut after = after;
+    while let Some((number, call)) = calls.first_above(after) {
+        if is_open_request(call, id) {
+            return Some(*number);
+        }
+        after = *number;
+    }
+    None
+}
+
+/// Whether a call is a request with this id that no cancel has reached.
+fn is_open_request(call: &TheirCall, id: &Id) -> bool
+    ensures { result ≡ is_reached id.now call.now }
+{
+    match &call.id {
+        Some(own) => own == id && !call.is_cancelled,
+        None => false,
     }
 }
 
-/// Takes the number of a request out of the index.
-fn forget_id(by_id: &mut NumbersById, id: &Option<Id>, number: u64)
-    ensures { IsWithoutNumber by_id.new by_id.old id.now number }
+/// Where `RECENT` calls aren't in the index, the oldest of them goes there. Answers up to which number they are there now.
+fn index_older(
+    by_id: &mut NumbersById,
+    calls: &NumberWindow<TheirCall>,
+    indexed: u64,
+    came: u64,
+) -> Result<u64, AllocError>
+    requires window { IsWindow calls.now }
+    requires within { indexed ≤ came }
+    requires few { came ≤ indexed + 128 }
+    requires numbered { Below (came + 1) (window_entries calls.now) }
+    requires index { IsNumberIndex by_id.old (up_to indexed (window_entries calls.now)) }
+    ensures ok { IfOk result (λ now. (now ≤ came) × (came < now + 128) ×
+        IsNumberIndex by_id.new (up_to now (window_entries calls.now))) }
+    ensures err { OnErr result (IsNumberIndex by_id.new (up_to indexed (window_entries calls.now))) }
 {
-    if let Some(id) = id {
+    if came - indexed < RECENT {
+        return Ok(indexed);
+    }
+    match calls.first_above(indexed) {
+        Some((next, call)) if *next == indexed + 1 => {
+            note(by_id, call, *next)?;
+            Ok(*next)
+        }
+        Some((next, _)) => Ok(*next - 1),
+        None => Ok(came),
+    }
+}
+
+/// Puts the number of a request that no cancel has reached into the index.
+fn note(by_id: &mut NumbersById, call: &TheirCall, number: u64) -> Result<(), AllocError>
+    ensures ok { OnOk result ((q : Id) (k : ℕ) → is_listed by_id.new q k ≡
+        (if is_reached q call.now && (number == k) then true else is_listed by_id.old q k)) }
+    ensures err { OnErr result ((q : Id) (k : ℕ) →
+        is_listed by_id.new q k ≡ is_listed by_id.old q k) }
+{
+    match &call.id {
+        Some(id) if !call.is_cancelled => by_id.add(id, number),
+        _ => Ok(()),
+    }
+}
+
+/// Takes the number of a request out of the index, where it is up to `indexed`.
+fn forget(by_id: &mut NumbersById, id: &Id, number: u64, indexed: u64)
+    ensures older { number ≤ indexed → (q : Id) (k : ℕ) → is_listed by_id.new q k ≡
+        (if same_id id.now q && (number == k) then false else is_listed by_id.old q k) }
+    ensures newer { indexed < number → (q : Id) (k : ℕ) →
+        is_listed by_id.new q k ≡ is_listed by_id.old q k }
+{
+    if number <= indexed {
         by_id.remove(id, number);
+    }
+}
+
+/// The same of a call. A notification isn't there.
+fn forget_call(by_id: &mut NumbersById, call: &TheirCall, number: u64, indexed: u64)
+    ensures older { number ≤ indexed → (q : Id) (k : ℕ) → is_listed by_id.new q k ≡
+        (if has_id q call.now.id && (number == k) then false else is_listed by_id.old q k) }
+    ensures newer { indexed < number → (q : Id) (k : ℕ) →
+        is_listed by_id.new q k ≡ is_listed by_id.old q k }
+{
+    if let Some(id) = &call.id {
+        forget(by_id, id, number, indexed);
     }
 }

@@ -1,12 +1,12 @@
 use Rattle.std.proofs.Common.{◌≡◌, suc, Some, ◌∙◌, ◌==◌, not, ap, is_some, subst, sym}
 use Rattle.number_windows.specs.Windows.{window_entries}
-use Rattle.number_windows.specs.Numbered.{at, without, Above, Below}
+use Rattle.number_windows.specs.Numbered.{at, without, up_to, Above, Below}
 use Rattle.open_calls.specs.Own.{OwnState}
 use Rattle.open_calls.specs.Inner.{IsKeyIndex}
 use Rattle.number_windows.proofs.Numbered.{below_filter, above_filter}
 use Rattle.number_windows.proofs.Rows.{at_gone, without_missing}
 use Rattle.open_calls.proofs.States.{through}
-use Rattle.open_calls.proofs.Own.{state_of, same_waiting, index_gone}
+use Rattle.open_calls.proofs.Own.{state_of, same_waiting, forgotten}
 use Rattle.open_calls.proofs.own_calls.OwnCalls.remove.Goals as goal
 
 pub invariant_of-self-2 : goal.invariant_of-self-2
@@ -21,7 +21,10 @@ invariant_of-self-2 c =
       window = c.remove.ensures.window;
       positive = subst (λ fs. Above 0 fs) (sym is) (above_filter 0 (λ e. not (c.args.key == e.0)) es c.self.invariant.positive);
       numbered = subst (λ fs. Below (suc c.self.inside.made) fs) (sym is) (below_filter (suc c.self.inside.made) (λ e. not (c.args.key == e.0)) es c.self.invariant.numbered);
-      by_caller = index_gone c.self.inside.by_caller c.remove-2.new.self es now c.args.key call c.remove-2.ensures c.self.invariant.by_caller changes there;
+      within = c.self.invariant.within;
+      few = c.self.invariant.few;
+      by_caller = forgotten c.self.inside.by_caller c.forget.new.by_caller c.self.inside.indexed es now c.args.key call c.forget.ensures.older c.forget.ensures.newer
+          c.self.invariant.by_caller changes there;
     }
 
 pub invariant_of-self : goal.invariant_of-self
@@ -32,7 +35,9 @@ invariant_of-self c =
       window = c.remove.ensures.window;
       positive = subst (λ fs. Above 0 fs) (sym same) c.self.invariant.positive;
       numbered = subst (λ fs. Below (suc c.self.inside.made) fs) (sym same) c.self.invariant.numbered;
-      by_caller = subst (λ fs. IsKeyIndex c.self.inside.by_caller fs) (sym same) c.self.invariant.by_caller;
+      within = c.self.invariant.within;
+      few = c.self.invariant.few;
+      by_caller = subst (λ fs. IsKeyIndex c.self.inside.by_caller (up_to c.self.inside.indexed fs)) (sym same) c.self.invariant.by_caller;
     }
 
 pub returns-in_default-clause-was : goal.returns-in_default-clause-was

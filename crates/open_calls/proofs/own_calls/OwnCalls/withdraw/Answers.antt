@@ -1,6 +1,6 @@
 use Rattle.std.proofs.Common.{◌≡◌, suc, Some, ◌∙◌, subst, sym, refl}
 use Rattle.number_windows.specs.Windows.{window_entries}
-use Rattle.number_windows.specs.Numbered.{at, changed_at, Above, Below}
+use Rattle.number_windows.specs.Numbered.{at, up_to, changed_at, Above, Below}
 use Rattle.open_calls.specs.Own.{withdrawn}
 use Rattle.open_calls.specs.Inner.{IsKeyIndex}
 use Rattle.number_windows.proofs.Numbered.{unchanged, below_changed, above_changed}
@@ -17,7 +17,9 @@ invariant_of-self c =
       window = none.1;
       positive = subst (λ fs. Above 0 fs) (sym none.0) c.self.invariant.positive;
       numbered = subst (λ fs. Below (suc c.self.inside.made) fs) (sym none.0) c.self.invariant.numbered;
-      by_caller = subst (λ fs. IsKeyIndex c.self.inside.by_caller fs) (sym none.0) c.self.invariant.by_caller;
+      within = c.self.invariant.within;
+      few = c.self.invariant.few;
+      by_caller = subst (λ fs. IsKeyIndex c.self.inside.by_caller (up_to c.self.inside.indexed fs)) (sym none.0) c.self.invariant.by_caller;
     }
 
 pub returns-in_default : goal.returns-in_default
@@ -41,7 +43,9 @@ invariant_of-self-2 c =
       window = holds.1;
       positive = subst (λ fs. Above 0 fs) (sym is) (above_changed 0 c.args.key withdrawn es c.self.invariant.positive);
       numbered = subst (λ fs. Below (suc c.self.inside.made) fs) (sym is) (below_changed (suc c.self.inside.made) c.args.key withdrawn es c.self.invariant.numbered);
-      by_caller = index_same c.self.inside.by_caller es now c.args.key call (withdrawn call) c.self.invariant.by_caller changes there refl;
+      within = c.self.invariant.within;
+      few = c.self.invariant.few;
+      by_caller = index_same c.self.inside.by_caller c.self.inside.indexed es now c.args.key call (withdrawn call) c.self.invariant.by_caller changes there refl;
     }
 
 pub returns : goal.returns
