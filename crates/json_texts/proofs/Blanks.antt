@@ -1,5 +1,5 @@
 -- Blanks are passed over, and integers with their commas.
-use Rattle.std.proofs.Common.{◌≡◌, ℕ, suc, ◌+◌, ◌-◌, ◌<◌, ◌≤◌, Bool, true, false, cond, List, [], ◌∷◌, ◌++◌, length, take, drop, get_or, refl, sym, ap, ◌∙◌, subst, arith, append_assoc, append-nil, drop-drop}
+use Rattle.std.proofs.Common.{◌≡◌, ℕ, suc, ◌+◌, ◌-◌, ◌<◌, ◌≤◌, Bool, true, false, not, ◌==◌, cond, List, [], ◌∷◌, ◌++◌, length, take, drop, get_or, refl, sym, ap, ◌∙◌, subst, arith, append_assoc, append-nil, drop-drop, eqb-true}
 use Rattle.std.proofs.lemmas.Bool.{false≢true}
 use Rattle.std.specs.List.{prefix_len, AllByRecursion}
 use Rattle.json.specs.Word.{is_space, is_operator}
@@ -36,6 +36,35 @@ past_blanks text out from end f is r = record {
   behind = r.behind ∙ ap (λ l. r.lexemes ++ l) (blanks_read text from end is);
   reads = r.reads;
 }
+
+-- ---- spaces, which are some of the blanks
+
+abbrev pub is_32 : ℕ → Bool
+is_32 x = not (not (x == 32))
+
+space_first : (b : Bool) (x n : ℕ) (xs : List ℕ) → (x == 32) ≡ b → prefix_len is_space xs ≡ n + prefix_len is_space (drop n xs)
+    → prefix_len is_space (x ∷ xs) ≡ cond (not (not b)) (1 + n) 0 + prefix_len is_space (drop (cond (not (not b)) (1 + n) 0) (x ∷ xs))
+space_first false x n xs e ih = let none : prefix_len is_space (x ∷ xs) ≡ 0 + prefix_len is_space (x ∷ xs) = omega arith in none
+space_first true x n xs e ih =
+    let next : suc n ≡ 1 + n = omega arith in
+    subst (λ k. prefix_len is_space (x ∷ xs) ≡ k + prefix_len is_space (drop k (x ∷ xs))) next
+    (ap (λ b. cond b (1 + prefix_len is_space xs) 0) (ap is_space (eqb-true x 32 e)) ∙ omega (arith, ih))
+
+spaces_first : (xs : List ℕ) → prefix_len is_space xs ≡ prefix_len is_32 xs + prefix_len is_space (drop (prefix_len is_32 xs) xs)
+spaces_first [] = refl
+spaces_first (x ∷ xs) = space_first (x == 32) x (prefix_len is_32 xs) xs refl (spaces_first xs)
+
+pub spaces_passed : (text : List ℕ) (from end : ℕ) → from + prefix_len is_32 (drop from text) ≡ end
+    → from + prefix_len is_space (drop from text) ≡ end + prefix_len is_space (drop end text)
+spaces_passed text from end is =
+    let n = prefix_len is_32 (drop from text) in
+    let all : prefix_len is_space (drop from text) ≡ n + prefix_len is_space (drop end text) =
+    spaces_first (drop from text) ∙ ap (λ l. n + prefix_len is_space l) (drop-drop n from text ∙ ap (λ k. drop k text) is) in
+    omega (arith, all, is)
+
+pub spaces_so_far : (text : List ℕ) (from at : ℕ) → from + prefix_len is_32 (drop from text) ≡ at + prefix_len is_32 (drop at text)
+    → from + prefix_len is_space (drop from text) ≡ at + prefix_len is_space (drop at text)
+spaces_so_far text from at is = spaces_passed text from (at + prefix_len is_32 (drop at text)) is ∙ sym (spaces_passed text at (at + prefix_len is_32 (drop at text)) refl)
 
 -- integers without a sign that were appended, with a comma behind each, and are read as the text from one place to another
 abbrev pub Reads : List ℕ → ℕ → ℕ → List ℕ → List ℕ → Type 0

@@ -1,6 +1,7 @@
 -- A mask that is computed lane by lane is held to a predicate at each of the 256 bytes.
-use Rattle.std.proofs.Common.{◌≡◌, ℕ, zero, suc, ◌%◌, ◌^◌, ◌<◌, ◌≤◌, ◌⊎◌, inl, inr, ltb, Bool, true, false, not, ◌&&◌, cond, eqb, T, List, [], ◌∷◌, map, length, refl, ap, ap₂, sym, subst, ◌∙◌, arith, w8, Fits, not-suc-le-zero}
+use Rattle.std.proofs.Common.{◌≡◌, ℕ, zero, suc, ◌%◌, ◌^◌, ◌<◌, ◌≤◌, ◌⊎◌, inl, inr, ltb, Bool, true, false, not, ◌&&◌, cond, eqb, T, List, [], ◌∷◌, map, length, get_or, refl, ap, ap₂, sym, subst, ◌∙◌, arith, w8, Fits, not-suc-le-zero}
 use Rattle.std.proofs.lemmas.Bool.{cases_order}
+use Rattle.std.proofs.Math.Facts.{eqb_yes}
 use Rattle.std.proofs.lemmas.List.{length-map}
 use Rattle.std.proofs.lemmas.Simd.{mask_l-mod}
 use lib.Bits.{bit_or}
@@ -23,6 +24,10 @@ upto_sound p (suc n) h i lt = go (upto_sound p n (both (p n) (upto p n) h).1 i) 
     go below (inl e) = subst (λ x. T (p x)) (sym e) (both (p n) (upto p n) h).0
     go below (inr (inl l)) = below l
     go below (inr (inr g)) = let no : ⊥ = omega arith in absurd no
+
+-- a table of the values of a function
+pub tabled : (table : List ℕ) (f : ℕ → ℕ) → T (upto (λ x. eqb (get_or table x 0) (f x)) 256) → (i : ℕ) → i < 256 → get_or table i 0 ≡ f i
+tabled table f all i below = eqb_yes (upto_sound (λ x. eqb (get_or table x 0) (f x)) 256 all i below)
 
 abbrev pub same : Bool → Bool → Bool
 same true b = b

@@ -16,7 +16,7 @@ use Rattle.json.specs.Run.{is_plain}
 use Rattle.json.proofs.Printed.Numbers.{lex-number, in_word-ended}
 use Rattle.json.proofs.Printed.Strings.{content-escape, lex-escape, escape_byte_plain}
 use Rattle.json_texts.specs.Standing.{Stands, HasNumber, is_escape_letter}
-use Rattle.json_texts.specs.Compacting.{HasShortest, HasLongEscape, HasCompactString, HasWord, ReadsSame, With}
+use Rattle.json_texts.specs.Compacting.{HasShortest, HasCompactPart, HasLongEscape, HasCompactString, HasWord, ReadsSame, With}
 use Rattle.json_texts.proofs.Placed.{byte_within, byte_stands, letter_within, plain_bytes, plain_stands, or_seven, escape-more, escape-append, part_is}
 
 -- ---- in a string
@@ -249,17 +249,11 @@ with_part out text part from at end below above within stands =
 
 -- ---- a string, as far as it was read
 
-pub record SoFar (text before now : List ℕ) (from at : ℕ) : Type 0 where
-  pub bytes : List ℕ
-  pub content : content plain (drop from text) ≡ prepend bytes (content plain (drop at text))
-  pub lexed : lex in_string (drop from text) ≡ lex in_string (drop at text)
-  pub written : now ≡ before ++ escape bytes
-
-pub begin_string : (text before : List ℕ) (from : ℕ) → SoFar text before before from from
+pub begin_string : (text before : List ℕ) (from : ℕ) → HasCompactPart text from before before from
 begin_string text before from = record { bytes = []; content = sym (prepend-nil _); lexed = refl; written = sym (append-nil before) }
 
-part_of_string : (text before out : List ℕ) (from kept at stop : ℕ) → kept ≤ at → at ≤ stop → stop ≤ length text → SoFar text before (With out text kept at) from at → HasShortest text at stop
-    → SoFar text before (With out text kept stop) from stop
+part_of_string : (text before out : List ℕ) (from kept at stop : ℕ) → kept ≤ at → at ≤ stop → stop ≤ length text → HasCompactPart text from before (With out text kept at) at → HasShortest text at stop
+    → HasCompactPart text from before (With out text kept stop) stop
 part_of_string text before out from kept at stop below above within s h = record {
   bytes = s.bytes ++ h.bytes;
   content = s.content ∙ ap (prepend s.bytes) h.content ∙ prepend-prepend s.bytes h.bytes _;
@@ -268,7 +262,7 @@ part_of_string text before out from kept at stop below above within s h = record
       ∙ append_assoc before (escape s.bytes) (escape h.bytes) ∙ ap (λ l. before ++ l) (sym (escape-append s.bytes h.bytes));
 }
 
-pub end_string : (text before out : List ℕ) (from kept at stop : ℕ) → kept ≤ at → at ≤ stop → stop < length text → SoFar text before (With out text kept at) from at → HasShortest text at stop
+pub end_string : (text before out : List ℕ) (from kept at stop : ℕ) → kept ≤ at → at ≤ stop → stop < length text → HasCompactPart text from before (With out text kept at) at → HasShortest text at stop
     → get_or text stop 0 ≡ 34 → HasCompactString text from before (With out text kept (stop + 1)) (stop + 1)
 end_string text before out from kept at stop below above within before_part h quote =
     let s = part_of_string text before out from kept at stop below above (omega (arith, within)) before_part h in
@@ -279,17 +273,28 @@ end_string text before out from kept at stop below above within before_part h qu
       written = with_one out text kept stop 33 (omega (arith, below, above)) quote ∙ ap (λ l. l ++ 34 ∷ []) s.written ∙ append_assoc before (escape s.bytes) (34 ∷ []);
     }
 
-pub more_string : (text before out new : List ℕ) (from kept at stop character end : ℕ) → kept ≤ at → at ≤ stop → stop < length text → SoFar text before (With out text kept at) from at
-    → HasShortest text at stop → HasLongEscape text stop character end → new ≡ With out text kept stop ++ encode_utf8 character → SoFar text before (With new text end end) from end
-more_string text before out new from kept at stop character end below above within before_part h e is =
+-- what follows, where nothing is kept before it
+pub more_string : (text before out new : List ℕ) (from kept at stop end : ℕ) → kept ≤ at → at ≤ stop → stop < length text → HasCompactPart text from before (With out text kept at) at
+    → HasShortest text at stop → HasCompactPart text stop (With out text kept stop) new end → HasCompactPart text from before (With new text end end) end
+more_string text before out new from kept at stop end below above within before_part h p =
     let s = part_of_string text before out from kept at stop below above (omega (arith, within)) before_part h in
+    record {
+      bytes = s.bytes ++ p.bytes;
+      content = s.content ∙ ap (prepend s.bytes) p.content ∙ prepend-prepend s.bytes p.bytes _;
+      lexed = s.lexed ∙ p.lexed;
+      written = with_none new text end ∙ p.written ∙ ap (λ l. l ++ escape p.bytes) s.written ∙ append_assoc before (escape s.bytes) (escape p.bytes)
+          ∙ ap (λ l. before ++ l) (sym (escape-append s.bytes p.bytes));
+    }
+
+pub more_escapes : (text before now new : List ℕ) (from at character end : ℕ) → HasCompactPart text from before now at → HasLongEscape text at character end
+    → new ≡ now ++ encode_utf8 character → HasCompactPart text from before new end
+more_escapes text before now new from at character end s e is =
     let c = encode_utf8 character in
     record {
       bytes = s.bytes ++ c;
       content = s.content ∙ ap (prepend s.bytes) e.content ∙ prepend-prepend s.bytes c _;
       lexed = s.lexed ∙ e.lexed;
-      written = with_none new text end ∙ is ∙ ap (λ l. l ++ c) s.written ∙ append_assoc before (escape s.bytes) c
-          ∙ ap (λ l. before ++ l) (ap (λ l. escape s.bytes ++ l) (sym e.itself) ∙ sym (escape-append s.bytes c));
+      written = is ∙ ap (λ l. l ++ c) s.written ∙ append_assoc before (escape s.bytes) c ∙ ap (λ l. before ++ l) (ap (λ l. escape s.bytes ++ l) (sym e.itself) ∙ sym (escape-append s.bytes c));
     }
 
 -- ---- words

@@ -1,4 +1,5 @@
 pub mod Ahead
+mod Begun
 mod Blanks
 pub mod FoundNumbers
 pub mod FoundStrings

@@ -392,17 +392,15 @@ value_text levels text end v whole =
 -- ---- what is written into room
 
 -- a part of a text, of whose bytes the first count
-pub written_front : (bytes room text part behind : List ℕ) (len count from : ℕ) → room ≡ bytes → len ≤ length bytes → count ≤ 16 → part ≡ take (from + 16 - from) (drop from text) → from + 16 ≤ length text
+pub written_front : (bytes room text part behind : List ℕ) (len count from : ℕ) → room ≡ bytes → len ≤ length bytes → count ≤ 16 → part ≡ take 16 (drop from text) → from + 16 ≤ length text
     → take (len + count) (take len room ++ (part ++ behind)) ≡ take len bytes ++ take count (drop from text)
 written_front bytes room text part behind len count from same within few is inside =
     let front = take len bytes in
     let size : length front ≡ len = (let all = length-take len bytes in omega (arith, all, within)) in
-    let sixteen : from + 16 - from ≡ 16 = omega arith in
     let behind_from = length-drop from text in
     let whole = length-take 16 (drop from text) in
-    let part_is_16 : part ≡ take 16 (drop from text) = is ∙ ap (λ n. take n (drop from text)) sixteen in
-    let part_long : count ≤ length part = (let long = ap length part_is_16 in omega (arith, long, whole, behind_from, few, inside)) in
+    let part_long : count ≤ length part = (let long = ap length is in omega (arith, long, whole, behind_from, few, inside)) in
     let both : take count (take 16 (drop from text)) ≡ take count (drop from text) =
     sym (take-append-le count (take 16 (drop from text)) (drop 16 (drop from text)) (omega (arith, whole, behind_from, few, inside))) ∙ ap (take count) (take-append-drop 16 (drop from text)) in
     ap (λ l. take (len + count) (take len l ++ (part ++ behind))) same ∙ ap (λ n. take (n + count) (front ++ (part ++ behind))) (sym size) ∙ take-append-add front (part ++ behind) count
-    ∙ ap (λ l. front ++ l) (take-append-le count part behind part_long ∙ ap (take count) part_is_16 ∙ both)
+    ∙ ap (λ l. front ++ l) (take-append-le count part behind part_long ∙ ap (take count) is ∙ both)

@@ -39,3 +39,10 @@ module _ (p q : ℕ → Bool) (opposite : (x : ℕ) → q x ≡ not (p x)) where
       let c = chunk i n d in
       split d i n ∙ ap (λ b. cond b (length c + prefix_len q (drop (i + n) d)) (prefix_len q c)) (ne_eqb _ _ (λ (e : prefix_len q c ≡ length c). omega (arith, all_pass c (sym (same_run c) ∙ e))))
       ∙ same_run c ∙ sym (trailing_mask_l p 64 c (omega (arith, length-chunk i n d room)) some)
+
+  pub run_within : (d : List ℕ) (i n : ℕ) → i + n ≤ length d → 0 < mask_l (map p (chunk i n d)) → prefix_len q (drop i d) < n
+  run_within d i n room some =
+      let c = chunk i n d in
+      let other : prefix_len q c ≡ length c → ⊥ = λ e. omega (arith, all_pass c (sym (same_run c) ∙ e)) in
+      let is : prefix_len q (drop i d) ≡ prefix_len q c = split d i n ∙ ap (λ b. cond b (length c + prefix_len q (drop (i + n) d)) (prefix_len q c)) (ne_eqb _ _ other) in
+      omega (arith, is, prefix_len-le-length q c, length-chunk i n d room, other)

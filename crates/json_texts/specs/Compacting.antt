@@ -17,6 +17,13 @@ pub record HasShortest (text : List ℕ) (from end : ℕ) : Type 0 where
   pub content : content plain (drop from text) ≡ prepend bytes (content plain (drop end text))
   pub lexed : lex in_string (drop from text) ≡ lex in_string (drop end text)
 
+-- A part of a string, and behind what was written before its shortest form. Readers of strings go on behind it.
+pub record HasCompactPart (text : List ℕ) (from : ℕ) (before after : List ℕ) (end : ℕ) : Type 0 where
+  pub bytes : List ℕ
+  pub content : content plain (drop from text) ≡ prepend bytes (content plain (drop end text))
+  pub lexed : lex in_string (drop from text) ≡ lex in_string (drop end text)
+  pub written : after ≡ before ++ escape bytes
+
 -- an escape of a character that stands for itself
 pub record HasLongEscape (text : List ℕ) (at character end : ℕ) : Type 0 where
   pub content : content plain (drop at text) ≡ prepend (encode_utf8 character) (content plain (drop end text))

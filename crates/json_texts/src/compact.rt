@@ -226,6 +226,7 @@ pub(crate) fn word_end(text: &[u8], from: usize, word: &[u8]) -> Option<usize>
     }
 }
 
+#[inline(always)]
 pub(crate) fn number_end(text: &[u8], from: usize) -> Option<usize>
     requires { from ≤ length text.now }
     ensures number { IfSome result (λ end. HasNumber text.now from end) }

@@ -1,19 +1,23 @@
 //! Parts of texts that aren't compact, appended in their compact form.
 
-ghost use Rattle.std.specs.Prelude.{◌≡◌, ◌≢◌, ◌≤◌, ◌<◌, ◌+◌, ◌++◌, IfOk, OnOk, IfSome, IsTrue, Some, List, ℕ, length, get_or, drop, slice_range, true, false};
+ghost use Rattle.std.specs.Prelude.{◌≡◌, ◌≤◌, ◌<◌, ◌+◌, ◌++◌, IfOk, OnOk, IfSome, IsTrue, Some, List, ℕ, length, get_or, drop, slice_range, map, not, ◌==◌, true};
 ghost use Rattle.std.specs.List.{prefix_len, AllByRecursion};
-ghost use Rattle.json.specs.Text.{code_unit};
+ghost use Rattle.std.specs.Char.{is_ascii_digit};
+ghost use Rattle.std.specs.Simd.Lanes.{mask_l};
+ghost use Rattle.json.specs.Run.{is_plain};
 ghost use Rattle.json.specs.Lex.{Lexeme, lex, between};
 ghost use Rattle.json.specs.Print.{IsNumber};
 ghost use Rattle.json.specs.Word.{is_space, is_operator, ends_word};
-ghost use Rattle.std.specs.Char.{digit_value, encode_utf8};
-ghost use Rattle.json_texts.specs.Compacting.{HasShortest, HasLongEscape, HasCompactString, With};
+ghost use Rattle.json_texts.specs.Compacting.{HasCompactString, With};
 ghost use Rattle.json_texts.specs.Naturals.{with_commas};
 
-use crate::compact::{byte_at, shortest_end};
-use crate::naturals::digits_end_slowly;
+use crate::compact::{byte_at, is_digit, shortest_end};
+use crate::escapes::append_escapes;
+use crate::naturals::digits_end;
+use crate::plain::near_stop;
 use crate::room::{Room, STORE};
 use std::alloc::AllocError;
+use std::simd::prelude::*;
 
 /// Passes the blanks that begin there, where there are any, once what was kept is appended. Gives where they end, and where
 /// the bytes begin that aren't appended yet.
@@ -29,12 +33,42 @@ pub(crate) fn past_blanks(
     ensures written { IfOk result (λ r. With out.new text.now r.1 r.0 ≡ With out.old text.now kept from) }
     ensures bounds { IfOk result (λ r. (r.1 ≤ r.0) × (from ≤ r.0) × (r.0 ≤ length text.now)) }
 {
-    if !is_blank(byte_at(text, from)) {
+    let first = byte_at(text, from);
+    // (This alone tells most bytes.)
+    if first > b' ' {
+        return Ok((from, kept));
+    }
+    if !is_blank(first) {
         return Ok((from, kept));
     }
     out.append(text, kept, from)?;
     let end = blanks_end(text, from + 1);
     Ok((end, end))
+}
+
+/// The end of the spaces that begin there, as far as looks at 16 bytes show it: many stand at the beginning of a line.
+#[inline(never)]
+fn spaces_end(text: &[u8], from: usize) -> usize
+    requires { from ≤ length text.now }
+    ensures value { from + prefix_len is_space (drop from text.now) ≡ result + prefix_len is_space (drop result text.now) }
+    ensures bounds { (from ≤ result) × (result ≤ length text.now) }
+{
+    let mut at = from;
+    while text.len() - at >= 16 {
+        let others = others_than_spaces(u8x16::from_slice(&text[at..]));
+        if others != 0 {
+            return at + others.trailing_zeros() as usize;
+        }
+        at += 16;
+    }
+    at
+}
+
+#[inline(always)]
+fn others_than_spaces(some: u8x16) -> u64
+    ensures { result ≡ mask_l (map (λ x. not (x == 32)) some) }
+{
+    some.simd_ne(u8x16::splat(b' ')).to_bitmask()
 }
 
 /// Appends the integers without a sign that follow one another in an array, each with its comma, and passes the blanks
@@ -50,22 +84,76 @@ pub(crate) fn append_naturals(text: &[u8], from: usize, out: &mut Room) -> Resul
 {
     let mut at = from;
     while text.len() - at >= STORE {
-        let end = digits_end_slowly(text, at);
-        if end == at || byte_at(text, end) != b',' {
+        let Some(comma) = comma_behind(text, at) else {
             return Ok(at);
-        }
-        if end != at + 1 && text[at] == b'0' {
-            return Ok(at);
-        }
-        out.append(text, at, end + 1)?;
-        at = blanks_end(text, end + 1);
+        };
+        out.append(text, at, comma + 1)?;
+        at = gap_end(text, comma + 1);
     }
     Ok(at)
 }
 
-/// The end of the blanks that begin there.
+/// The comma behind an integer without a sign. One or two digits are told without a look at more bytes.
+#[inline(always)]
+fn comma_behind(text: &[u8], from: usize) -> Option<usize>
+    requires { from + STORE ≤ length text.now }
+    ensures digits { IfSome result (λ comma. comma ≡ from + prefix_len is_ascii_digit (drop from text.now)) }
+    ensures alone { IfSome result (λ comma. get_or text.now from 0 ≡ 48 → comma ≡ from + 1) }
+    ensures comma { IfSome result (λ comma. get_or text.now comma 0 ≡ 44) }
+    ensures bounds { IfSome result (λ comma. (from < comma) × (comma < length text.now)) }
+{
+    let first = text[from];
+    if !is_digit(first) {
+        return None;
+    }
+    if text[from + 1] == b',' {
+        return Some(from + 1);
+    }
+    // (A zero is no first digit of several.)
+    if first == b'0' {
+        return None;
+    }
+    if is_digit(text[from + 1]) & (text[from + 2] == b',') {
+        return Some(from + 2);
+    }
+    let end = digits_end(text, from);
+    if byte_at(text, end) == b',' {
+        Some(end)
+    } else {
+        None
+    }
+}
+
+/// The end of the blanks that begin there. Most often there is one.
+#[inline(always)]
+fn gap_end(text: &[u8], from: usize) -> usize
+    requires { from ≤ length text.now }
+    ensures value { result ≡ from + prefix_len is_space (drop from text.now) }
+    ensures bound { result ≤ length text.now }
+{
+    if byte_at(text, from) == b' ' {
+        blanks_end(text, from + 1)
+    } else {
+        blanks_end(text, from)
+    }
+}
+
+/// The end of the blanks that begin there. Most often there is none.
 #[inline(always)]
 fn blanks_end(text: &[u8], from: usize) -> usize
+    requires { from ≤ length text.now }
+    ensures value { result ≡ from + prefix_len is_space (drop from text.now) }
+    ensures bound { result ≤ length text.now }
+{
+    if byte_at(text, from) > b' ' {
+        return from;
+    }
+    blanks_end_slowly(text, spaces_end(text, from))
+}
+
+/// The same one by one.
+#[inline(always)]
+fn blanks_end_slowly(text: &[u8], from: usize) -> usize
     requires { from ≤ length text.now }
     ensures value { result ≡ from + prefix_len is_space (drop from text.now) }
     ensures bound { result ≤ length text.now }
@@ -79,7 +167,45 @@ fn blanks_end(text: &[u8], from: usize) -> usize
 
 /// Appends the string whose first quote stands before `from`, but for its last bytes. Gives its end, and where the bytes
 /// begin that aren't appended yet.
+#[inline(always)]
 pub(crate) fn append_string(
+    text: &[u8],
+    kept: usize,
+    from: usize,
+    out: &mut Room,
+) -> Result<Option<(usize, usize)>, AllocError>
+    requires { (kept ≤ from) × (from ≤ length text.now) }
+    ensures string { IfOk result (λ r. IfSome r (λ ends. HasCompactString text.now from
+        (out.old ++ slice_range text.now kept from)
+        (out.new ++ slice_range text.now ends.1 ends.0) ends.0)) }
+    ensures bounds { IfOk result (λ r. IfSome r (λ ends. (ends.1 ≤ ends.0) × (from < ends.0) × (ends.0 ≤ length text.now))) }
+{
+    match near_quote(text, from) {
+        Some(quote) => Ok(Some((quote + 1, kept))),
+        None => {
+            let Some((end, kept)) = append_any_string(text, kept, from, out)? else {
+                return Ok(None);
+            };
+            Ok(Some((end, kept)))
+        }
+    }
+}
+
+/// The place of the closing quote, where one look shows it and no escape comes before.
+#[inline(always)]
+fn near_quote(text: &[u8], from: usize) -> Option<usize>
+    requires { from ≤ length text.now }
+    ensures value { IfSome result (λ quote. quote ≡ from + prefix_len is_plain (drop from text.now)) }
+    ensures quote { IfSome result (λ quote. get_or text.now quote 0 ≡ 34) }
+    ensures within { IfSome result (λ quote. quote < length text.now) }
+{
+    let stop = near_stop(text, from)?;
+    if text[stop] == b'"' { Some(stop) } else { None }
+}
+
+/// The same of any string.
+#[inline(never)]
+fn append_any_string(
     text: &[u8],
     kept: usize,
     from: usize,
@@ -94,127 +220,21 @@ pub(crate) fn append_string(
     let mut kept = kept;
     let mut at = from;
     while at < text.len() {
-        let Some(stop) = stop_from(text, at) else {
+        let Some(stop) = shortest_end(text, at) else {
             return Ok(None);
         };
         if text[stop] == b'"' {
             return Ok(Some((stop + 1, kept)));
         }
-        let Some((character, end)) = long_escape(text, stop) else {
+        out.append(text, kept, stop)?;
+        let end = append_escapes(text, stop, out)?;
+        if end == stop {
             return Ok(None);
-        };
-        append_kept(text, kept, stop, out)?;
-        append_character(character, out)?;
+        }
         at = end;
         kept = end;
     }
     Ok(None)
-}
-
-/// Appends what was kept. Where escapes follow one another that is nothing.
-#[inline(always)]
-fn append_kept(text: &[u8], kept: usize, to: usize, out: &mut Room) -> Result<(), AllocError>
-    requires { (kept ≤ to) × (to ≤ length text.now) }
-    ensures { OnOk result (out.new ≡ out.old ++ slice_range text.now kept to) }
-{
-    if kept == to {
-        return Ok(());
-    }
-    out.append(text, kept, to)
-}
-
-fn append_character(character: char, out: &mut Room) -> Result<(), AllocError>
-    ensures { OnOk result (out.new ≡ out.old ++ encode_utf8 character) }
-{
-    let unit = character as u32;
-    // (as many bytes as one store moves)
-    let mut bytes = [0; STORE];
-    if unit < 0x80 {
-        bytes[0] = unit as u8;
-        return out.append(&bytes, 0, 1);
-    }
-    if unit < 0x800 {
-        bytes[0] = (0xc0 + unit / 64) as u8;
-        bytes[1] = (0x80 + unit % 64) as u8;
-        return out.append(&bytes, 0, 2);
-    }
-    if unit < 0x1_0000 {
-        bytes[0] = (0xe0 + unit / 4096) as u8;
-        bytes[1] = (0x80 + unit / 64 % 64) as u8;
-        bytes[2] = (0x80 + unit % 64) as u8;
-        return out.append(&bytes, 0, 3);
-    }
-    bytes[0] = (0xf0 + unit / 0x4_0000) as u8;
-    bytes[1] = (0x80 + unit / 4096 % 64) as u8;
-    bytes[2] = (0x80 + unit / 64 % 64) as u8;
-    bytes[3] = (0x80 + unit % 64) as u8;
-    out.append(&bytes, 0, 4)
-}
-
-/// As `shortest_end`. Escapes of four digits come in rows, so the next one is looked for right there.
-#[inline(always)]
-fn stop_from(text: &[u8], from: usize) -> Option<usize>
-    requires { from ≤ length text.now }
-    ensures part { IfSome result (λ end. HasShortest text.now from end) }
-    ensures stop { IfSome result (λ end. get_or text.now end 0 ≢ 34 → get_or text.now end 0 ≡ 92) }
-    ensures bounds { IfSome result (λ end. (from ≤ end) × (end < length text.now)) }
-{
-    if byte_at(text, from) == b'\\' && byte_at(text, from + 1) == b'u' {
-        return Some(from);
-    }
-    shortest_end(text, from)
-}
-
-/// What the escape that begins there stands for, and its end. There is none where it has no shorter form, or is rare.
-fn long_escape(text: &[u8], at: usize) -> Option<(char, usize)>
-    requires within { at < length text.now }
-    requires backslash { get_or text.now at 0 ≡ 92 }
-    ensures escape { IfSome result (λ e. HasLongEscape text.now at e.0 e.1) }
-    ensures bounds { IfSome result (λ e. (at < e.1) × (e.1 ≤ length text.now)) }
-{
-    let letter = byte_at(text, at + 1);
-    if letter == b'/' {
-        return Some(('/', at + 2));
-    }
-    if letter != b'u' || text.len() - at < 6 {
-        return None;
-    }
-    let unit = four_digits(text, at + 2)?;
-    if unit < 0x20 || unit == 0x22 || unit == 0x5c {
-        return None;
-    }
-    let character = char::from_u32(unit)?;
-    Some((character, at + 6))
-}
-
-/// The number that four hexadecimal digits spell.
-fn four_digits(text: &[u8], at: usize) -> Option<u32>
-    requires { at + 4 ≤ length text.now }
-    ensures { IfSome result (λ unit. code_unit (get_or text.now at 0) (get_or text.now (at + 1) 0) (get_or text.now (at + 2) 0)
-        (get_or text.now (at + 3) 0) ≡ Some unit) }
-{
-    let (a, b, c, d) = (
-        digit(text[at]),
-        digit(text[at + 1]),
-        digit(text[at + 2]),
-        digit(text[at + 3]),
-    );
-    if (a < 16) & (b < 16) & (c < 16) & (d < 16) {
-        Some(a * 4096 + b * 256 + c * 16 + d)
-    } else {
-        None
-    }
-}
-
-fn digit(letter: u8) -> u32
-    ensures { result ≡ digit_value letter }
-{
-    match letter {
-        b'0'..=b'9' => (letter - b'0') as u32,
-        b'a'..=b'z' => (letter - b'a') as u32 + 10,
-        b'A'..=b'Z' => (letter - b'A') as u32 + 10,
-        _ => 36,
-    }
 }
 
 /// The end of a word, and the same that was kept, where the word ends there.

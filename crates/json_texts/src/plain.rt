@@ -1,6 +1,6 @@
 //! The plain text of a string, passed over a vector at a time.
 
-ghost use Rattle.std.specs.Prelude.{◌≡◌, ◌+◌, ◌≤◌, length, drop, map};
+ghost use Rattle.std.specs.Prelude.{◌≡◌, ◌+◌, ◌≤◌, ◌<◌, IfSome, length, drop, map};
 ghost use Rattle.std.specs.List.{prefix_len};
 ghost use Rattle.std.specs.Simd.Lanes.{mask_l};
 ghost use Rattle.json.specs.Run.{is_stop, is_plain};
@@ -76,6 +76,23 @@ fn plain_end_16(text: &[u8], from: usize) -> usize
         return from + found.trailing_zeros() as usize;
     }
     plain_end_8(text, from + 16)
+}
+
+/// The same place, where it is seen in one look: most strings are short.
+#[inline(always)]
+pub(crate) fn near_stop(text: &[u8], from: usize) -> Option<usize>
+    requires { from ≤ length text.now }
+    ensures value { IfSome result (λ stop. stop ≡ from + prefix_len is_plain (drop from text.now)) }
+    ensures within { IfSome result (λ stop. stop < length text.now) }
+{
+    if text.len() - from < 16 {
+        return None;
+    }
+    let found = stops_16(u8x16::from_slice(&text[from..]));
+    if found == 0 {
+        return None;
+    }
+    Some(from + found.trailing_zeros() as usize)
 }
 
 /// The place of the first quote, backslash or control byte from there on, or the length.

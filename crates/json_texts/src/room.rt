@@ -4,6 +4,7 @@ ghost use Rattle.std.specs.Prelude.{◌≡◌, ◌≤◌, ◌<◌, ◌^◌, ◌+
 
 use std::alloc::{AllocError, Global};
 use std::marker::Model;
+use std::simd::prelude::*;
 
 /// So many bytes are moved at once.
 pub(crate) const STORE: usize = 16;
@@ -56,8 +57,9 @@ impl Room {
         let count = to - from;
         let is_within = text.len() - from >= STORE;
         if count <= STORE && is_within && self.bytes.len() - self.len >= STORE {
-            let room = &mut self.bytes.as_mut_slice()[self.len..self.len + STORE];
-            room.copy_from_slice(&text[from..from + STORE]);
+            // (`copy_from_slice` would first look whether the two overlap.)
+            let some = u8x16::from_slice(&text[from..]);
+            some.copy_to_slice(&mut self.bytes.as_mut_slice()[self.len..self.len + STORE]);
             self.len += count;
             return Ok(());
         }
@@ -89,8 +91,8 @@ impl Room {
         self.bytes.reserve(left.saturating_add(STORE))?;
         self.bytes.extend_from_slice(part)?;
         self.len = self.bytes.len();
-        let ahead = (left - part.len()).min(AHEAD) + STORE;
-        self.bytes.resize(self.len.saturating_add(ahead), 0)
+        let ahead = (self.bytes.capacity() - self.len).min(AHEAD);
+        self.bytes.resize(self.len + ahead, 0)
     }
 
     /// What was written, with no new memory.

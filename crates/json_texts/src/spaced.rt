@@ -26,10 +26,19 @@ pub struct Known {
 impl Known {
     pub const NOTHING: Known = Known { start: 0, end: 0 };
 
-    /// Keeps the longer of the two.
+    /// None is known, nor noted.
+    const UNNOTED: Known = Known {
+        start: 0,
+        end: usize::MAX,
+    };
+
+    /// Keeps the longer of the two, but for `UNNOTED`: of the members of a member no value is noted.
     fn note(&mut self, start: usize, end: usize)
         ensures { (self.new ≡ self.old) ⊎ ((self.new.start ≡ start) × (self.new.end ≡ end)) }
     {
+        if self.end == usize::MAX {
+            return;
+        }
         if end.saturating_sub(start) > self.end.saturating_sub(self.start) {
             *self = Known { start, end };
         }
@@ -125,8 +134,10 @@ fn append_whole(
 }
 
 /// Appends the value that begins there, but for its last bytes, which are kept with those before. Gives its end, and where
-/// the bytes begin that aren't appended yet.
+/// the bytes begin that aren't appended yet. (What a call gives, in memory, is taken apart at once, so that what is found
+/// without a call stays in registers. Most numbers have no sign, so their first digits are told before the rest.)
 #[cycle(spaced)]
+#[inline(always)]
 fn append_value(
     text: &[u8],
     kept: usize,
@@ -148,15 +159,30 @@ fn append_value(
             if levels == 0 {
                 return Ok(None);
             }
-            append_items(text, kept, from + 1, levels - 1, out)
+            let Some((end, kept)) = append_items(text, kept, from + 1, levels - 1, out)? else {
+                return Ok(None);
+            };
+            Ok(Some((end, kept)))
         }
         b'{' => {
             if levels == 0 {
                 return Ok(None);
             }
-            let mut longest = Known::NOTHING;
-            append_members(text, kept, from + 1, levels - 1, out, &mut longest)
+            let mut longest = Known::UNNOTED;
+            let Some((end, kept)) = append_members(
+                text,
+                kept,
+                from + 1,
+                levels - 1,
+                out,
+                &mut longest,
+            )?
+            else {
+                return Ok(None);
+            };
+            Ok(Some((end, kept)))
         }
+        b'0'..=b'9' => Ok(ended_word(text, kept, number_end(text, from))),
         b't' => Ok(ended_word(text, kept, word_end(text, from, b"true"))),
         b'f' => Ok(ended_word(text, kept, word_end(text, from, b"false"))),
         b'n' => Ok(ended_word(text, kept, word_end(text, from, b"null"))),

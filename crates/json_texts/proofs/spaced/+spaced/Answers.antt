@@ -288,39 +288,49 @@ append_value-returns-in-34-clause-same t c =
     written.found_weaker c.append_string.result (λ e s r. weaker text (With new text e.1 e.0) e.0 (past_string text out (With new text e.1 e.0) c.args.kept c.args.from e.0 c.requires.0 quote r s))
     c.append_string.ensures.string
 
-pub append_value-returns-else-levels-eq0-clause-value : goal.append_value-returns-else-levels-eq0-clause-value
-append_value-returns-else-levels-eq0-clause-value t c =
+pub append_value-returns-in-Some-clause-value : goal.append_value-returns-in-Some-clause-value
+append_value-returns-in-Some-clause-value t c =
     let text = c.args.text.now in
+    let levels = c.args.levels in
+    let out = c.args.out.now in
     let new = c.append_items.new.out in
     let opened : get_or text c.args.from 0 ≡ 91 = omega (arith, c.byte_at.ensures, c.in-91.is) in
-    let above : c.args.levels ≡ suc (c.args.levels - 1) = omega (arith, c.if-levels-eq0.false) in
-    written.found_weaker c.append_items.result (λ e a. written.array_written c.args.levels (c.args.levels - 1) text c.args.out.now (With new text e.1 e.0) c.args.kept c.args.from c.requires.0 opened above a)
-    c.append_items.ensures.items
+    let above : levels ≡ suc (levels - 1) = omega (arith, c.if-levels-eq0.false) in
+    written.array_written levels (levels - 1) text out (With new text c.in-Some.kept c.in-Some.end) c.args.kept c.args.from c.requires.0 opened above
+    (subst (λ (r : Option (ℕ × ℕ)). IfSome r (λ e. HasWrittenItems (levels - 1) (With out text c.args.kept (c.args.from + 1)) (With new text e.1 e.0))) c.in-Some.is c.in_ok-end-in-91.ensures.items)
 
-pub append_value-returns-else-levels-eq0-clause-same : goal.append_value-returns-else-levels-eq0-clause-same
-append_value-returns-else-levels-eq0-clause-same t c =
+pub append_value-returns-in-Some-clause-same : goal.append_value-returns-in-Some-clause-same
+append_value-returns-in-Some-clause-same t c = λ r.
     let text = c.args.text.now in
+    let out = c.args.out.now in
     let new = c.append_items.new.out in
-    let opened : get_or text c.args.from 0 ≡ 91 = omega (arith, c.byte_at.ensures, c.in-91.is) in
-    written.found_weaker c.append_items.result
-    (λ e f r. weaker text (With new text e.1 e.0) e.0 (f (byte_read text c.args.out.now c.args.kept c.args.from 90 false c.requires.0 opened refl r))) c.append_items.ensures.same
+    let from = c.args.from in
+    let opened : get_or text from 0 ≡ 91 = omega (arith, c.byte_at.ensures, c.in-91.is) in
+    weaker text (With new text c.in-Some.kept c.in-Some.end) c.in-Some.end
+    (subst (λ (r : Option (ℕ × ℕ)). IfSome r (λ e. ReadsSame text (With out text c.args.kept (from + 1)) (from + 1) false → ReadsSame text (With new text e.1 e.0) e.0 false)) c.in-Some.is
+    c.in_ok-end-in-91.ensures.same (byte_read text out c.args.kept from 90 false c.requires.0 opened refl r))
 
-pub append_value-returns-else-levels-eq0-2-clause-value : goal.append_value-returns-else-levels-eq0-2-clause-value
-append_value-returns-else-levels-eq0-2-clause-value t c =
+pub append_value-returns-in-Some-2-clause-value : goal.append_value-returns-in-Some-2-clause-value
+append_value-returns-in-Some-2-clause-value t c =
     let text = c.args.text.now in
+    let levels = c.args.levels in
+    let out = c.args.out.now in
     let new = c.append_members.new.out in
     let opened : get_or text c.args.from 0 ≡ 123 = omega (arith, c.byte_at.ensures, c.in-123.is) in
-    let above : c.args.levels ≡ suc (c.args.levels - 1) = omega (arith, c.if-levels-eq0-2.false) in
-    written.found_weaker c.append_members.result (λ e a. written.object_written c.args.levels (c.args.levels - 1) text c.args.out.now (With new text e.1 e.0) c.args.kept c.args.from c.requires.0 opened above a)
-    c.append_members.ensures.members
+    let above : levels ≡ suc (levels - 1) = omega (arith, c.if-levels-eq0-2.false) in
+    written.object_written levels (levels - 1) text out (With new text c.in-Some-2.kept c.in-Some-2.end) c.args.kept c.args.from c.requires.0 opened above
+    (subst (λ (r : Option (ℕ × ℕ)). IfSome r (λ e. HasWrittenMembers (levels - 1) (With out text c.args.kept (c.args.from + 1)) (With new text e.1 e.0))) c.in-Some-2.is c.in_ok-end-in-123.ensures.members)
 
-pub append_value-returns-else-levels-eq0-2-clause-same : goal.append_value-returns-else-levels-eq0-2-clause-same
-append_value-returns-else-levels-eq0-2-clause-same t c =
+pub append_value-returns-in-Some-2-clause-same : goal.append_value-returns-in-Some-2-clause-same
+append_value-returns-in-Some-2-clause-same t c = λ r.
     let text = c.args.text.now in
+    let out = c.args.out.now in
     let new = c.append_members.new.out in
-    let opened : get_or text c.args.from 0 ≡ 123 = omega (arith, c.byte_at.ensures, c.in-123.is) in
-    written.found_weaker c.append_members.result
-    (λ e f r. weaker text (With new text e.1 e.0) e.0 (f (byte_read text c.args.out.now c.args.kept c.args.from 122 false c.requires.0 opened refl r))) c.append_members.ensures.same
+    let from = c.args.from in
+    let opened : get_or text from 0 ≡ 123 = omega (arith, c.byte_at.ensures, c.in-123.is) in
+    weaker text (With new text c.in-Some-2.kept c.in-Some-2.end) c.in-Some-2.end
+    (subst (λ (r : Option (ℕ × ℕ)). IfSome r (λ e. ReadsSame text (With out text c.args.kept (from + 1)) (from + 1) false → ReadsSame text (With new text e.1 e.0) e.0 false)) c.in-Some-2.is
+    c.in_ok-end-in-123.ensures.same (byte_read text out c.args.kept from 122 false c.requires.0 opened refl r))
 
 pub append_value-returns-in-116-clause-value : goal.append_value-returns-in-116-clause-value
 append_value-returns-in-116-clause-value t c =
@@ -382,20 +392,38 @@ append_value-returns-in-110-clause-same t c =
     (some_weaker found (λ end w. null_word text from end w) c.word_end-in-110.ensures.word) (written.word_bounds text from 4 found c.word_end-in-110.ensures.bounds c.word_end-in-110.ensures.within)
     ended.end ended.kept ended.ended
 
+pub append_value-returns-in-48-to-57-clause-value : goal.append_value-returns-in-48-to-57-clause-value
+append_value-returns-in-48-to-57-clause-value t c =
+    let text = c.args.text.now in
+    let from = c.args.from in
+    let found = c.number_end.result in
+    let ended = c.ended_word-in-48-to-57.ensures in
+    written.word_written c.args.levels text c.args.out.now c.args.kept from found c.ended_word-in-48-to-57.result c.requires.0
+    (some_weaker found (λ end n. number_value c.args.levels text from end n) c.number_end.ensures.number) (written.number_bounds text from found c.number_end.ensures.bounds) ended.end ended.kept
+
+pub append_value-returns-in-48-to-57-clause-same : goal.append_value-returns-in-48-to-57-clause-same
+append_value-returns-in-48-to-57-clause-same t c =
+    let text = c.args.text.now in
+    let from = c.args.from in
+    let found = c.number_end.result in
+    let ended = c.ended_word-in-48-to-57.ensures in
+    written.word_read text c.args.out.now c.args.kept from found c.ended_word-in-48-to-57.result c.requires.0
+    (some_weaker found (λ end n. number_word text from end n) c.number_end.ensures.number) (written.number_bounds text from found c.number_end.ensures.bounds) ended.end ended.kept ended.ended
+
 pub append_value-returns-in_default-clause-value : goal.append_value-returns-in_default-clause-value
 append_value-returns-in_default-clause-value t c =
     let text = c.args.text.now in
     let from = c.args.from in
-    let found = c.number_end.result in
+    let found = c.number_end-in_default.result in
     let ended = c.ended_word-in_default.ensures in
     written.word_written c.args.levels text c.args.out.now c.args.kept from found c.ended_word-in_default.result c.requires.0
-    (some_weaker found (λ end n. number_value c.args.levels text from end n) c.number_end.ensures.number) (written.number_bounds text from found c.number_end.ensures.bounds) ended.end ended.kept
+    (some_weaker found (λ end n. number_value c.args.levels text from end n) c.number_end-in_default.ensures.number) (written.number_bounds text from found c.number_end-in_default.ensures.bounds) ended.end ended.kept
 
 pub append_value-returns-in_default-clause-same : goal.append_value-returns-in_default-clause-same
 append_value-returns-in_default-clause-same t c =
     let text = c.args.text.now in
     let from = c.args.from in
-    let found = c.number_end.result in
+    let found = c.number_end-in_default.result in
     let ended = c.ended_word-in_default.ensures in
     written.word_read text c.args.out.now c.args.kept from found c.ended_word-in_default.result c.requires.0
-    (some_weaker found (λ end n. number_word text from end n) c.number_end.ensures.number) (written.number_bounds text from found c.number_end.ensures.bounds) ended.end ended.kept ended.ended
+    (some_weaker found (λ end n. number_word text from end n) c.number_end-in_default.ensures.number) (written.number_bounds text from found c.number_end-in_default.ensures.bounds) ended.end ended.kept ended.ended

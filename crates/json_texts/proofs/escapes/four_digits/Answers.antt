@@ -1,6 +1,6 @@
 use Rattle.std.proofs.Common.{arith}
 use Rattle.json.specs.Text.{code_unit}
-use Rattle.json_texts.proofs.compacting.four_digits.Goals as goal
+use Rattle.json_texts.proofs.escapes.four_digits.Goals as goal
 
 pub returns-then-a-b : goal.returns-then-a-b
 unfolding code_unit

@@ -2,10 +2,11 @@ use Rattle.std.proofs.Common.{◌<◌, ◌≤◌, ◌⊎◌, ◌+◌, ℕ, inl, 
 use Rattle.std.specs.Char.{InScalarRange}
 use Rattle.json_texts.specs.Compacting.{HasLongEscape}
 use Rattle.json_texts.proofs.Lexed.{slash_escape, digits_escape}
-use Rattle.json_texts.proofs.compacting.long_escape.Goals as goal
+use Rattle.json_texts.proofs.escapes.long_escape.Goals as goal
 
 pub returns-then-letter-eq47-clause-escape : goal.returns-then-letter-eq47-clause-escape
-returns-then-letter-eq47-clause-escape c = slash_escape c.args.text.now c.args.at c.requires.backslash (omega (arith, c.byte_at-letter.ensures, c.if-letter-eq47.true))
+returns-then-letter-eq47-clause-escape c =
+    slash_escape c.args.text.now c.args.at (omega (arith, c.if-text-at-ne92.false)) (omega (arith, c.byte_at-letter.ensures, c.if-letter-eq47.true))
 
 is_whole : (u : ℕ) → InScalarRange u → (u < 55296) ⊎ (57344 ≤ u)
 is_whole u (inl low) = inl low
@@ -16,6 +17,7 @@ returns-clause-escape c =
     let text = c.args.text.now in
     let at = c.args.at in
     let unit = c.in_ok-unit.unit in
+    let plain = c.is_escaped.ensures c.if-is_escaped.false in
     subst (λ u. HasLongEscape text at u (at + 6)) (sym c.in_ok-character.ensures.value.1)
-    (digits_escape text at unit c.requires.backslash (omega (arith, c.byte_at-letter.ensures, c.if-letter-ne117.false)) (omega (arith, c.if-text-at-lt6.false)) c.in_ok-unit.ensures
-    (is_whole unit c.in_ok-character.ensures.cases) (omega (arith, c.if-unit-lt32.false)) c.if-unit-eq34.false c.if-unit-eq92.false)
+    (digits_escape text at unit (omega (arith, c.if-text-at-ne92.false)) (omega (arith, c.byte_at-letter.ensures, c.if-letter-ne117.false)) (omega (arith, c.if-text-at-lt6.false)) c.in_ok-unit.ensures
+    (is_whole unit c.in_ok-character.ensures.cases) plain.0 plain.1 plain.2)
