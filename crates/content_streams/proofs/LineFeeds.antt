@@ -1,5 +1,5 @@
 -- Where the first LF stands, and what of a head stands in front of it.
-use Rattle.std.proofs.Common.{◌≡◌, ℕ, zero, suc, ◌+◌, ◌<◌, ◌≤◌, Bool, true, false, cond, List, [], ◌∷◌, length, length-drop, ◌-◌, take, drop, Option, Some, None, slice_index, refl, ap, sym, subst, ◌∙◌, add-zero, arith}
+use Rattle.std.proofs.Common.{◌≡◌, ℕ, zero, suc, ◌+◌, ◌<◌, ◌≤◌, Bool, true, false, cond, List, [], ◌∷◌, ◌++◌, codes, length, length-drop, ◌-◌, take, drop, Option, Some, None, slice_index, refl, ap, sym, subst, ◌∙◌, add-zero, arith}
 use Rattle.std.specs.Prelude.{position}
 use Rattle.std.specs.List.{position_from}
 use Rattle.std.proofs.lemmas.Iterator.Adapters.{position_from-zero}
@@ -8,8 +8,8 @@ use Rattle.memchr.specs.Find.{IsFirstByte}
 use Rattle.content_streams.specs.Lines.{is_lf}
 use Rattle.content_streams.specs.Inner.Heads.{in_front, head_bytes}
 use Rattle.content_streams.specs.declared.under_way.HeadStage.{HeadStage}
-use Rattle.content_streams.specs.declared.under_way.HeadStage.TheVariants.{LineStart, Line}
-use Rattle.content_streams.proofs.HeadSteps.{behind}
+use Rattle.content_streams.specs.declared.under_way.HeadStage.TheVariants.{LineStart, Cr, Line, Whole}
+use Rattle.content_streams.proofs.HeadSteps.{behind, at_whole}
 
 -- ---- the first place where a byte passes
 
@@ -95,3 +95,16 @@ none_from_place bytes at found within =
     let size = length-drop at bytes in
     let all : at + length (drop at bytes) ≡ length bytes = omega (arith, size, within) in
     ap (behind at) (all_in_line (drop at bytes) (λ k under. none k (omega arith) under)) ∙ ap (λ n. (n, Line)) all
+
+-- ---- the head that most frames have
+
+pub words_of_head : (bytes : List ℕ) → bytes ≡ codes "Content-Length: " ++ drop 16 bytes → head_bytes LineStart bytes ≡ behind 16 (head_bytes Line (drop 16 bytes))
+words_of_head bytes is =
+    let head = head_bytes Line (drop 16 bytes) in
+    let e : head.0 + 1 + 1 + 1 + 1 + 1 + 1 + 1 + 1 + 1 + 1 + 1 + 1 + 1 + 1 + 1 + 1 ≡ 16 + head.0 = omega arith in
+    ap (head_bytes LineStart) is ∙ ap (λ n. (n, head.1)) e
+
+pub end_of_head : (bytes : List ℕ) (at : ℕ) → drop at bytes ≡ codes "\r\n\r\n" ++ drop 4 (drop at bytes) → behind at (head_bytes Line (drop at bytes)) ≡ (at + 4, Whole)
+end_of_head bytes at is =
+    ap (λ xs. behind at (head_bytes Line xs)) is
+    ∙ ap (λ head. behind at (in_front Line (in_front Line (in_front LineStart (in_front Cr head))))) (at_whole (drop 4 (drop at bytes)))

@@ -13,6 +13,7 @@ mod line_feed;
 mod places;
 mod row;
 mod under_way;
+mod usual_head;
 
 pub use content_stream::ContentStream;
 pub use ending::{HowEnded, StreamEnd};

@@ -6,6 +6,7 @@ ghost use Rattle.lsp_frames.specs.Feeds.{fed_frames};
 ghost use Rattle.content_streams.specs.Inner.Heads.{SmallFrames, at_start, behind_content, content_place, followed, head_bytes, stage_after, with_bytes};
 
 use crate::line_feed::place_of_lf;
+use crate::usual_head::usual_head;
 use lsp_frames::{Fed, Frames};
 use std::collections::VecDeque;
 
@@ -88,7 +89,7 @@ impl UnderWay {
         ensures place { result.0 ≡ content_place self bytes.now }
         ensures behind { result.1.now ≡ behind_content self size bytes.now }
     {
-        let (head, _) = head_bytes(self.stage, bytes);
+        let head = head_size(self.stage, bytes);
         let place = self.head_end.saturating_add(head as u64);
         let behind_head = &bytes[head..];
         let missing = size.saturating_sub(self.content).min(behind_head.len());
@@ -135,6 +136,19 @@ impl UnderWay {
         }
         under_way.with(rest)
     }
+}
+
+/// How many of the bytes the head has that is at this stage.
+fn head_size(stage: HeadStage, bytes: &[u8]) -> usize
+    ensures is { result ≡ (head_bytes stage bytes.now).0 }
+    ensures most { result ≤ length bytes.now }
+{
+    if let HeadStage::LineStart = stage
+        && let Some(size) = usual_head(bytes)
+    {
+        return size;
+    }
+    head_bytes(stage, bytes).0
 }
 
 /// How many of the bytes the head has that is at this stage, and its stage behind them.

@@ -1,9 +1,10 @@
 -- Which way a choice went, and small facts on lists.
-use Rattle.std.proofs.Common.{◌≡◌, ℕ, suc, ◌+◌, ◌-◌, ◌⊎◌, inl, inr, Bool, true, false, ◌&&◌, cond, List, [], ◌∷◌, ◌++◌, length, take, drop, get_or, nat_eq, take-append-drop, refl, ap, sym, ◌∙◌, arith, length-append}
+use Rattle.std.proofs.Common.{◌≡◌, ℕ, suc, ◌+◌, ◌-◌, ◌⊎◌, inl, inr, Bool, true, false, ◌&&◌, cond, List, [], ◌∷◌, ◌++◌, length, take, drop, get_or, not, take-append-drop, refl, ap, sym, ◌∙◌, arith, length-append}
 use Rattle.std.proofs.lemmas.Grind.{common_steps}
 use Rattle.std.proofs.lemmas.List.{take_all, take_more}
 use Rattle.std.proofs.lemmas.Slice.Eq.{bytes_eq-Decides}
-use Rattle.std.specs.List.{list_all, starts_with}
+use Rattle.std.specs.List.{list_all}
+use Rattle.std.specs.Str.{bytes_eq}
 
 pub choice : {X : Type 0} (t : Bool) (x y z : X) → cond t x y ≡ z → ((t ≡ true) × (x ≡ z)) ⊎ ((t ≡ false) × (y ≡ z))
 choice true x y z h = inl (refl, h)
@@ -32,8 +33,10 @@ ends_so (y ∷ ys) x h =
     let whole : take (length (y ∷ ys) - 1 + 1) (y ∷ ys) ≡ y ∷ ys = take_all (length (y ∷ ys) - 1 + 1) (y ∷ ys) (omega arith) in
     sym whole ∙ take_more (y ∷ ys) (length (y ∷ ys) - 1) 0 (omega arith) ∙ ap (λ (b : ℕ). take (length (y ∷ ys) - 1) (y ∷ ys) ++ b ∷ []) h
 
--- what a text that starts with a word is
-pub starts_is : (text word : List ℕ) → starts_with nat_eq text word ≡ true → text ≡ word ++ drop (length word) text
-starts_is text word is =
-    let same : word ≡ take (length word) text = (bytes_eq-Decides word (take (length word) text)).0 is in
-    sym (take-append-drop (length word) text) ∙ ap (λ (l : List ℕ). l ++ drop (length word) text) (sym same)
+-- what a text is whose front is compared with a word
+pub starts_is : (text front word : List ℕ) (n : ℕ) → front ≡ take n text → bytes_eq front word ≡ true → text ≡ word ++ drop n text
+starts_is text front word n is same = sym (take-append-drop n text) ∙ ap (λ (l : List ℕ). l ++ drop n text) (sym is ∙ (bytes_eq-Decides front word).0 same)
+
+pub same_if : (same : Bool) → not same ≡ false → same ≡ true
+same_if true h = refl
+same_if false h = sym h

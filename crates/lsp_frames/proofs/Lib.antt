@@ -2,6 +2,7 @@ pub mod Digits
 pub mod Reading
 pub mod Choices
 pub mod Saying
+mod ShortLengths
 pub mod Steps
 pub mod Walks
 pub mod Forms

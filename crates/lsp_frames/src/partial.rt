@@ -1,11 +1,12 @@
 //! What has come of the frame under way, and what a piece adds to it.
 
-ghost use Rattle.std.specs.Prelude.{◌≡◌, ◌==◌, ◌<◌, ◌++◌, ◌∷◌, ℕ, List, [], None, length, position, take, IfOk, IfSome, IsTrue, OnErr, OnOk};
+ghost use Rattle.std.specs.Prelude.{◌≡◌, ◌==◌, ◌<◌, ◌≤◌, ◌++◌, ◌∷◌, ℕ, List, [], None, false, length, position, take, IfOk, IfSome, IsTrue, OnErr, OnOk};
 ghost use Rattle.std.specs.Option.{option_to_list};
 ghost use Rattle.lsp_frames.specs.Feeds.{fed_frames};
 ghost use Rattle.lsp_frames.specs.Heads.{head_from};
+ghost use Rattle.lsp_frames.specs.Frames.{Whole, front};
 ghost use Rattle.lsp_frames.specs.Decoding.{end_known};
-ghost use Rattle.lsp_frames.specs.Inner.Partials.{Adds, Cuts, Gives, HasKept, IsFront, IsPartial, IsSame, IsShort, IsUnderWay, Takes, TakesAll, first_place, frames_of, known_read, read_at, read_of, read_on};
+ghost use Rattle.lsp_frames.specs.Inner.Partials.{Adds, Cuts, Gives, HasKept, IsCutSoFar, IsFront, IsPartial, IsSame, IsShort, IsUnderWay, Takes, TakesAll, first_place, frames_of, known_read, read_at, read_of, read_on};
 
 use crate::fed::Fed;
 use crate::field::place_of;
@@ -95,6 +96,19 @@ impl Place {
             }
             Line::End(size, foreign) => Stage::Content(size, foreign),
             Line::Fault(fault) => Stage::Ended(fault),
+        }
+    }
+}
+
+impl Stage {
+    /// Whether a frame begins here.
+    fn is_first(self) -> bool
+        ensures { IsTrue result → self ≡ Stage.Head first_place }
+    {
+        match self {
+            Stage::Head(place) => place.is_first(),
+            Stage::Content(..) => false,
+            Stage::Ended(_) => false,
         }
     }
 }
@@ -431,6 +445,46 @@ fn push_whole<G: Gathering>(
     }
 }
 
+/// The content of the frame that begins with the bytes, and the bytes behind it, if its head is a usual one and it is
+/// whole among them.
+#[inline(always)]
+fn usual_frame(limit: u32, bytes: &[u8]) -> Option<(&[u8], &[u8])>
+    ensures frame { IfSome result (λ cut. front limit bytes.now
+        ≡ Whole (record { content = cut.0.now; foreign = false }) cut.1.now) }
+    ensures behind { IfSome result (λ cut. length cut.1.now < length bytes.now) }
+{
+    let (size, at) = usual_head(limit, bytes)?;
+    let rest = &bytes[at..];
+    if rest.len() < size as usize {
+        return None;
+    }
+    Some(rest.split_at(size as usize))
+}
+
+/// Cuts those frames off the front of the bytes whose heads are usual ones, adds them to `frames`, and gives the bytes
+/// behind. Nearly all frames are cut here, in one step; line by line each would take two, with a stage between them.
+fn cut_usual<'a, G: Gathering>(
+    alloc: Global,
+    limit: u32,
+    stage: Stage,
+    frames: &mut G,
+    bytes: &'a [u8],
+) -> Result<&'a [u8], AllocError>
+    ensures so_far { IfOk result (λ rest. IsCutSoFar limit (G.gathered frames.old) (G.gathered frames.new)
+        (read_on limit (read_at stage []) bytes.now) (read_on limit (read_at stage []) rest.now)) }
+    ensures behind { IfOk result (λ rest. length rest.now ≤ length bytes.now) }
+{
+    let mut rest = bytes;
+    if !stage.is_first() {
+        return Ok(rest);
+    }
+    while let Some((content, behind)) = usual_frame(limit, rest) {
+        frames.put(alloc, content, false)?;
+        rest = behind;
+    }
+    Ok(rest)
+}
+
 /// Cuts the frames off the front of the bytes, which begin at this stage, adds them to `frames`, and keeps what is left.
 fn cut<G: Gathering>(
     alloc: Global,
@@ -445,11 +499,11 @@ fn cut<G: Gathering>(
     ensures partial { IfOk result (λ partial. IsPartial partial) }
 {
     let mut stage = first;
-    let mut rest = bytes;
+    let mut rest = cut_usual(alloc, limit, stage, frames, bytes)?;
     while let Some(front) = whole_front(limit, stage, rest) {
         push_whole(alloc, frames, stage, front.whole)?;
         stage = front.next;
-        rest = front.behind;
+        rest = cut_usual(alloc, limit, stage, frames, front.behind)?;
     }
     let mut partial = Partial::new(alloc, stage);
     partial.hold(alloc, rest)?;

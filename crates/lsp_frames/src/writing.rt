@@ -1,6 +1,6 @@
 //! Writing a frame.
 
-ghost use Rattle.std.specs.Prelude.{◌≡◌, ◌++◌, IfOk, OnOk, OnErr, codes, decimal, length, take};
+ghost use Rattle.std.specs.Prelude.{◌≡◌, ◌≤◌, ◌<◌, ◌++◌, IfOk, OnOk, OnErr, codes, decimal, length, take};
 
 use itoa::Buffer;
 use std::alloc::{AllocError, Global};
@@ -39,6 +39,47 @@ pub fn put_frame(bytes: &mut Vec<u8>, content: &[u8]) -> Result<(), AllocError>
 
 /// Puts the head of a content of `length` bytes behind the bytes: `Content-Length: N`, CR LF, CR LF.
 pub fn put_head(bytes: &mut Vec<u8>, length: usize) -> Result<(), AllocError>
+    ensures ok { OnOk result (bytes.new.items ≡ bytes.old.items
+        ++ codes "Content-Length: " ++ decimal length ++ codes "\r\n\r\n") }
+    ensures err { OnErr result (bytes.new.items ≡ bytes.old.items) }
+{
+    // Most messages have a length of two or three digits. Such a head is of a size that is known when this is compiled, so
+    // it is copied in place, and its room is asked for once.
+    if length < 10 || length >= 1000 {
+        return put_any_head(bytes, length);
+    }
+    if length < 100 {
+        bytes.extend_from_slice(&head_of_two(length))
+    } else {
+        bytes.extend_from_slice(&head_of_three(length))
+    }
+}
+
+/// The head of a length of two digits.
+fn head_of_two(length: usize) -> [u8; 22]
+    requires { (10 ≤ length) × (length < 100) }
+    ensures { result ≡ codes "Content-Length: " ++ decimal length ++ codes "\r\n\r\n" }
+{
+    let mut head = *b"Content-Length: 00\r\n\r\n";
+    head[16] = b'0' + (length / 10) as u8;
+    head[17] = b'0' + (length % 10) as u8;
+    head
+}
+
+/// The head of a length of three digits.
+fn head_of_three(length: usize) -> [u8; 23]
+    requires { (100 ≤ length) × (length < 1000) }
+    ensures { result ≡ codes "Content-Length: " ++ decimal length ++ codes "\r\n\r\n" }
+{
+    let mut head = *b"Content-Length: 000\r\n\r\n";
+    head[16] = b'0' + (length / 100) as u8;
+    head[17] = b'0' + (length / 10 % 10) as u8;
+    head[18] = b'0' + (length % 10) as u8;
+    head
+}
+
+/// Puts the head of any length.
+fn put_any_head(bytes: &mut Vec<u8>, length: usize) -> Result<(), AllocError>
     ensures ok { OnOk result (bytes.new.items ≡ bytes.old.items
         ++ codes "Content-Length: " ++ decimal length ++ codes "\r\n\r\n") }
     ensures err { OnErr result (bytes.new.items ≡ bytes.old.items) }

@@ -68,15 +68,11 @@ impl BytesLeft {
         ensures ok { OnOk result (self.new ≡ self.old ++ framed framing text.now) }
         ensures err { OnErr result (self.new ≡ self.old) }
     {
-        let put = if self.back.is_empty() {
-            put_text(&mut self.front, framing, text)
+        if self.back.is_empty() {
+            put_kept(self.alloc, &mut self.front, framing, text)
         } else {
-            put_text(&mut self.back, framing, text)
-        };
-        // A text for which there was no memory may have made room.
-        let_go(self.alloc, &mut self.front);
-        let_go(self.alloc, &mut self.back);
-        put
+            put_kept(self.alloc, &mut self.back, framing, text)
+        }
     }
 
     /// Puts the text in this room at the end, as this framing writes it. A long one is moved, so it isn't there twice, unless
@@ -151,6 +147,24 @@ fn move_behind(front: &mut Vec<u8>, back: &mut Vec<u8>, bytes: &mut Vec<u8>)
     } else {
         mem::swap(back, bytes);
     }
+}
+
+/// Puts the text behind the bytes, as this framing writes it. No bytes keep little room.
+#[inline(always)]
+fn put_kept(
+    alloc: Global,
+    bytes: &mut Vec<u8>,
+    framing: Framing,
+    text: &[u8],
+) -> Result<(), AllocError>
+    ensures ok { OnOk result (bytes.new.items ≡ bytes.old.items ++ framed framing text.now) }
+    ensures err { OnErr result (bytes.new.items ≡ bytes.old.items) }
+    ensures little { bytes.new.items ≡ [] → vec_capacity bytes.new ≤ 4096 }
+{
+    let put = put_text(bytes, framing, text);
+    // A text for which there was no memory may have made room.
+    let_go(alloc, bytes);
+    put
 }
 
 /// Puts the text behind the bytes, as this framing writes it.

@@ -98,8 +98,18 @@ impl Outbox {
     {
         match self.framing {
             Framing::Frames | Framing::Lines => self.move_to_stream(room),
-            Framing::Contents => self.put_alone(own_of(self.alloc, room)?),
+            Framing::Contents => self.move_alone(room),
         }
+    }
+
+    /// It is no part of its caller: there the block that it makes would cost each put in a stream some steps.
+    #[inline(never)]
+    fn move_alone(&mut self, room: &mut Vec<u8>) -> Result<(), AllocError>
+        requires { self.old.framing ≡ Framing.Contents }
+        ensures ok { OnOk result (self.new ≡ with_text room.old.items self.old) }
+        ensures err { OnErr result (self.new ≡ self.old) }
+    {
+        self.put_alone(own_of(self.alloc, room)?)
     }
 
     fn move_to_stream(&mut self, room: &mut Vec<u8>) -> Result<(), AllocError>

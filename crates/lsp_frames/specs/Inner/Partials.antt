@@ -51,6 +51,12 @@ abbrev pub Gives : ℕ → HeadRead → List Frame → HeadRead → Type 0
 Gives limit read [] last = HasNoFrame read × (last ≡ read)
 Gives limit read (frame ∷ frames) last = (rest : List ℕ) × (front_of read ≡ Whole frame rest) × Gives limit (head_at limit rest) frames last
 
+-- Where that was read first, the frames that stand behind the old ones are whole, and this is read behind them.
+pub record IsCutSoFar (limit : ℕ) (old new : List Frame) (first now : HeadRead) : Type 0 where
+  pub frames : List Frame
+  pub made : new ≡ old ++ frames
+  pub on : (later : List Frame) (last : HeadRead) → Gives limit now later last → Gives limit first (frames ++ later) last
+
 -- The same, of frames that stand behind those that were there.
 abbrev pub Cuts : ℕ → List Frame → List Frame → HeadRead → HeadRead → Type 0
 Cuts limit old new read last = (frames : List Frame) × (new ≡ old ++ frames) × Gives limit read frames last

@@ -1,6 +1,5 @@
 use Rattle.std.proofs.Common.{[]}
-use Rattle.lsp_frames.specs.Inner.Partials.{IsUnderWay, measure, read_at, read_on}
-use Rattle.lsp_frames.proofs.Cuts.{IsCutSoFar}
+use Rattle.lsp_frames.specs.Inner.Partials.{IsCutSoFar, IsUnderWay, measure, read_at, read_on}
 use Rattle.lsp_frames.proofs.partial.cut.Given as goal
 
 abbrev pub invariant-loop-front : goal.invariant-loop-front
