@@ -5,6 +5,7 @@ use Rattle.std.specs.List.{slice_get}
 use Rattle.std.proofs.lemmas.Option.{slice_get_within, get_or_from_slice_get, slice_get-map}
 use Rattle.std.specs.Prelude.{option_to_list, option_map}
 use Rattle.lsp_frames.specs.declared.frame.Frame.{Frame}
+use Rattle.connection_messages.specs.declared.call.Call.{Call}
 use Rattle.connection_messages.specs.declared.unit.Unit.{Unit}
 use Rattle.connection_history.specs.declared.broken.Broken.{Broken}
 use Rattle.connection_history.specs.declared.close.Close.{Close}
@@ -23,7 +24,7 @@ use Rattle.connection_steps.specs.Steps.{leaving, owed_with}
 use Rattle.connection_desk.specs.Desks.{Desk, after_unit, after_end, answer_texts}
 use Rattle.connection.specs.Settings.{Chosen, rules_of}
 use Rattle.connection.specs.Connections.{Connection, IsStreamOf, HasEnded, was_full, had_ended, StandsAfter, SamePieces, Step, comes, is_full, ends, GoesOn, stays, goes, IsStill, HasStepped, HasGoneOn, read, origin_of, content_came, calls_of, close_of}
-use Rattle.connection.specs.Inner.{IsNext, HasMoved, HasStayed, HasGone, HasCome}
+use Rattle.connection.specs.Inner.{IsNext, HasMoved, HasStayed, HasGone, HasCome, lone, with_untold}
 use Rattle.connection.proofs.Moves.{desk_came, desk_ended}
 use Rattle.connection.proofs.Fed.{over_is, unclosed, all_told}
 use Rattle.connection.proofs.Stands.{full_more, still}
@@ -297,3 +298,35 @@ next_from places_are c frame u broken next is defect =
       read = is ∙ ap (read (rules_of c.settings)) (sym found.2);
       defect = defect found.0 found.1;
     }
+
+-- of a call by itself nothing is broken
+pub no_defect : (from : Option Origin) (call : Call) → broken_in from (lone call) ≡ []
+no_defect None call = refl
+no_defect (Some from) call = refl
+
+-- what isn't told yet is told
+pub told_there : (c : Connection) (event : Event) (history : History) (told : List Event) → c.desk.untold ≡ [] → StandsAfter (with_untold event c) history told
+    → StandsAfter c history (told ++ event ∷ [])
+told_there c event history told none stands = record {
+  lawful = stands.lawful;
+  typed = stands.typed;
+  calls = stands.calls;
+  stream = stands.stream;
+  ended = stands.ended;
+  desk = record {
+    cancels = stands.desk.cancels;
+    order = stands.desk.order;
+    state = stands.desk.state;
+    events = stands.desk.events ∙ sym (append-nil (told ++ event ∷ [])) ∙ ap (λ es. (told ++ event ∷ []) ++ es) (sym none);
+    framing = stands.desk.framing;
+    written = stands.desk.written;
+    tally = stands.desk.tally;
+  };
+  taken = stands.taken;
+}
+
+pub reported_there : (before now : Connection) (event : Event) (history : History) (told : List Event) → HasGone before (with_untold event now) → now.desk.untold ≡ []
+    → StandsAfter before history told → (x : History) × GoesOn before told history x × StandsAfter now x (told ++ event ∷ [])
+reported_there before now event history told gone none stands =
+    let g : HasCome before (with_untold event now) history told = gone.gone history told stands in
+    (g.history, g.steps, told_there now event g.history told none g.stands)

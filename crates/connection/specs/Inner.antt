@@ -1,13 +1,18 @@
 -- What going on does to a connection, whatever its history.
-use Rattle.std.specs.Prelude.{◌≡◌, ◌<◌, ℕ, ◌+◌, ◌-◌, List, length, Option, Some, option_to_list, if◌then◌else◌}
+use Rattle.std.specs.Prelude.{◌≡◌, ◌<◌, ℕ, ◌+◌, ◌-◌, List, [], ◌∷◌, length, Option, Some, option_to_list, if◌then◌else◌}
 use Rattle.lsp_frames.specs.declared.frame.Frame.{Frame}
+use Rattle.connection_messages.specs.declared.call.Call as calls
+use Rattle.connection_messages.specs.declared.entry.Entry.TheVariants.{Call}
 use Rattle.connection_messages.specs.declared.unit.Unit.{Unit}
+use Rattle.connection_messages.specs.declared.unit.Unit.TheVariants.{Single}
 use Rattle.connection_history.specs.declared.event.Event.{Event}
 use Rattle.connection_history.specs.History.{History}
 use Rattle.connection_history.specs.declared.broken.Broken.{Broken}
 use Rattle.connection_history.specs.Events.{broken_in, events_of}
 use Rattle.content_streams.specs.Streams as streams
 use Rattle.connection.specs.Settings.{rules_of}
+use Rattle.connection.specs.declared.asking.Step.{Step}
+use Rattle.connection.specs.declared.asking.Step.TheVariants.{Stayed, Moved, Told}
 use Rattle.connection.specs.Connections.{Connection, contents, read, origin_of, GoesOn, StandsAfter, IsStill, HasStepped, SamePieces, output}
 
 -- how often the connection can go on before more is fed: each content that wasn't taken, and the end
@@ -33,6 +38,24 @@ pub record HasMoved (before now : Connection) : Type 0 where
 pub record HasStayed (before now : Connection) : Type 0 where
   pub same : now ≡ before
   pub still : (history : History) (told : List Event) → StandsAfter before history told → events_of history ≡ told → IsStill before history told
+
+-- a call that comes by itself
+abbrev pub lone : calls.Call → Unit
+lone call = Single (Call call)
+
+-- the same connection, where just this isn't told yet
+abbrev pub with_untold : Event → Connection → Connection
+with_untold event c = record c { desk = record c.desk { untold = event ∷ [] } }
+
+-- the connection has gone on by a step, of which this is all that is told
+pub record HasTold (event : Event) (before now : Connection) : Type 0 where
+  pub moved : HasMoved before (with_untold event now)
+  pub none : now.desk.untold ≡ []
+
+abbrev pub HasDone : Step → Connection → Connection → Type 0
+HasDone Stayed before now = HasStayed before now
+HasDone Moved before now = HasMoved before now
+HasDone (Told event) before now = HasTold event before now
 
 -- so far, where the last step may have brought what isn't told yet
 pub record HasCome (before now : Connection) (past : History) (told : List Event) : Type 0 where

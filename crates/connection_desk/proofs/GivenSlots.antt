@@ -1,16 +1,13 @@
--- A slot of an owed answer is given its text, or has it taken back.
-use Rattle.std.proofs.Common.{◌≡◌, ℕ, ◌<◌, ◌≤◌, ◌==◌, not, Bool, true, false, cond, List, [], ◌∷◌, Option, Some, None, refl, sym, ap, subst, ◌∙◌, arith, set}
-use Rattle.std.proofs.lemmas.Bool.{eqb-true, ne_eqb}
-use Rattle.std.proofs.lemmas.List.{set-set, set-get_or}
-use Rattle.std.proofs.lemmas.Option.{unwrap_or-slice_get}
+-- A slot of an owed answer is given its text.
+use Rattle.std.proofs.Common.{◌≡◌, ℕ, ◌<◌, ◌≤◌, ◌==◌, not, Bool, true, false, cond, [], ◌∷◌, refl, sym, ap, ◌∙◌, arith}
+use Rattle.std.proofs.lemmas.Bool.{ne_eqb}
 use Rattle.std.specs.Global.{Vec}
 use Rattle.std.specs.Vec.{vec_capacity}
 use Rattle.connection_history.specs.declared.order.Order.{Order}
 use Rattle.connection_history.specs.declared.order.Order.TheVariants.{AsAnswered, AsCame}
 use Rattle.connection_steps.specs.Steps.{is_complete, complete_front, incomplete_rest, leaving, staying}
-use Rattle.open_calls.specs.Numbered.{at, without, changed_at, Above, Ascending}
-use Rattle.owed_answers.specs.Owed.{OwedUnit, slot_in, slot_at, replaced}
-use Rattle.connection_desk.proofs.States.{unit_of}
+use Rattle.open_calls.specs.Numbered.{without, changed_at, Above}
+use Rattle.owed_answers.specs.Owed.{OwedUnit}
 use Rattle.connection_desk.specs.declared.events.Events.{Events}
 use Rattle.connection_desk.specs.Inner.{OnlyAt, IsDesk, IsOpenEnded}
 use Rattle.connection_desk.proofs.OwedLists.{Units, all_stay, none_first}
@@ -63,7 +60,7 @@ only_changed AsAnswered place f (e ∷ es) none =
     let first = none_first (is_complete e.1) e (leaving AsAnswered es) none in
     only_step (place == e.0) f e (without place (changed_at place f es)) first.0 (only_changed AsAnswered place f es first.1)
 
--- ---- a slot is changed back
+-- ---- a unit that isn't there
 
 apart : (n m : ℕ) → n < m → (n == m) ≡ false
 apart n m lt = ne_eqb n m (λ same. omega arith)
@@ -72,27 +69,3 @@ pub changed_above : (n : ℕ) (f : OwedUnit → OwedUnit) (es : Units) → Above
 changed_above n f [] above = refl
 changed_above n f (e ∷ es) above =
     ap (λ b. let d : ℕ × OwedUnit = (e.0, cond b (f e.1) e.1) in d ∷ changed_at n f es) (apart n e.0 above.0) ∙ ap (λ t. e ∷ t) (changed_above n f es above.1)
-
-pub unit_back : (slot : ℕ) (text was : Option (List ℕ)) (unit : OwedUnit) → was ≡ slot_in slot unit.slots → replaced slot was (replaced slot text unit) ≡ unit
-unit_back slot text was unit is =
-    ap (unit_of unit.is_batch)
-    (set-set unit.slots slot text was
-    ∙ ap (set unit.slots slot) (is ∙ unwrap_or-slice_get unit.slots slot None)
-    ∙ set-get_or unit.slots slot None)
-
-back_step : (b : Bool) (slot : ℕ) (text was : Option (List ℕ)) (e : ℕ × OwedUnit) (o : Option OwedUnit) (rest es : Units) → was ≡ slot_at slot (cond b (Some e.1) o)
-    → (b ≡ true → rest ≡ es) → (was ≡ slot_at slot o → rest ≡ es)
-    → (e.0, cond b (replaced slot was (cond b (replaced slot text e.1) e.1)) (cond b (replaced slot text e.1) e.1)) ∷ rest ≡ e ∷ es
-back_step true slot text was e o rest es is here there =
-    ap (λ u. (e.0, u) ∷ rest) (unit_back slot text was e.1 is) ∙ ap (λ t. e ∷ t) (here refl)
-back_step false slot text was e o rest es is here there = ap (λ t. e ∷ t) (there is)
-
-pub changed_back : (place slot : ℕ) (text was : Option (List ℕ)) (owed : Units) → Ascending owed → was ≡ slot_at slot (at place owed)
-    → changed_at place (replaced slot was) (changed_at place (replaced slot text) owed) ≡ owed
-changed_back place slot text was [] order is = refl
-changed_back place slot text was (e ∷ es) order is =
-    back_step (place == e.0) slot text was e (at place es) (changed_at place (replaced slot was) (changed_at place (replaced slot text) es)) es is
-    (λ here.
-    let above : Above place es = subst (λ m. Above m es) (sym (eqb-true place e.0 here)) order.0 in
-    ap (changed_at place (replaced slot was)) (changed_above place (replaced slot text) es above) ∙ changed_above place (replaced slot was) es above)
-    (λ there. changed_back place slot text was es order.1 there)

@@ -1,5 +1,5 @@
 -- A slot of a unit is given its text, and what goes out then.
-use Rattle.std.proofs.Common.{◌≡◌, ℕ, ◌==◌, not, Bool, true, false, cond, List, [], ◌∷◌, ◌++◌, length, set, eq-eqb, Option, Some, None, refl, sym, ap, subst, ◌∙◌, arith}
+use Rattle.std.proofs.Common.{◌≡◌, ℕ, ◌==◌, not, Bool, true, false, cond, List, [], ◌∷◌, ◌++◌, length, eq-eqb, Option, Some, None, refl, sym, ap, subst, ◌∙◌, arith}
 use Rattle.std.proofs.lemmas.Bool.{eqb-true, ne_eqb}
 use Rattle.std.specs.Option.{unwrap_or}
 use Rattle.connection_history.specs.Counts.{capped}
@@ -7,40 +7,13 @@ use Rattle.connection_history.specs.declared.order.Order.{Order}
 use Rattle.connection_history.specs.declared.order.Order.TheVariants.{AsAnswered, AsCame}
 use Rattle.connection_steps.specs.Steps.{complete_front, incomplete_rest, is_complete, leaving, staying}
 use Rattle.open_calls.specs.Numbered.{at, without, changed_at, first_number, next_number, Above, Ascending}
-use Rattle.owed_answers.specs.Owed.{OwedUnit, given, is_answer, joined, lacking_slots, slot_texts, unit_texts}
+use Rattle.owed_answers.specs.Owed.{OwedUnit, unit_texts}
 use Rattle.connection_desk.specs.Desks.{answer_count, answer_texts}
-use Rattle.connection_desk.specs.Inner.{IsAlone, OnlyAt, complete_in, complete_at, complete_text_in, complete_text_at, rest_from, rest_of}
+use Rattle.connection_desk.specs.Inner.{OnlyAt, complete_in, complete_at, complete_text_in, complete_text_at, rest_from, rest_of}
 use Rattle.connection_desk.proofs.Entries.{AtAbove, AtChanged, WithoutAbove}
 use Rattle.connection_desk.proofs.GivenSlots.{all_stays, changed_above, only_changed}
 use Rattle.connection_desk.proofs.OwedLists.{Units, count_texts, front_more, front_rest, front_stops, only_count, only_rest, only_text}
-use Rattle.connection_desk.proofs.Rests.{rest_at_first}
-
--- ---- a unit that is no batch, and has one answer
-
-one_complete : (slots : List (Option (List ℕ))) (text : List ℕ) → length slots ≡ 1 → (lacking_slots (set slots 0 (Some text)) == 0) ≡ true
-one_complete [] text one = absurd (omega (arith, one))
-one_complete (s ∷ []) text one = refl
-one_complete (s ∷ t ∷ ts) text one = absurd (omega (arith, one))
-
-one_set : (slots : List (Option (List ℕ))) (text : List ℕ) → length slots ≡ 1 → set slots 0 (Some text) ≡ Some text ∷ []
-one_set [] text one = absurd (omega (arith, one))
-one_set (s ∷ []) text one = refl
-one_set (s ∷ t ∷ ts) text one = absurd (omega (arith, one))
-
-joined_one : (b : Bool) (text : List ℕ) → joined false (cond b (text ∷ []) []) ≡ cond b (text ∷ []) []
-joined_one true text = refl
-joined_one false text = refl
-
-pub alone_complete : (slot : ℕ) (unit : OwedUnit) (text : List ℕ) → slot ≡ 0 → IsAlone unit → is_complete (given slot text unit) ≡ true
-alone_complete slot unit text first alone = ap (λ n. is_complete (given n text unit)) first ∙ one_complete unit.slots text alone.one
-
-pub alone_texts : (slot : ℕ) (unit : OwedUnit) (text : List ℕ) → slot ≡ 0 → IsAlone unit → slot_texts (Some text ∷ []) ≡ complete_text_in (Some (given slot text unit))
-alone_texts slot unit text first alone =
-    sym (ap (λ b. cond b (unit_texts (given slot text unit)) []) (alone_complete slot unit text first alone)
-    ∙ ap (λ n. unit_texts (given n text unit)) first
-    ∙ ap (λ b. joined b (slot_texts (set unit.slots 0 (Some text)))) alone.no_batch
-    ∙ ap (λ ss. joined false (slot_texts ss)) (one_set unit.slots text alone.one)
-    ∙ joined_one (is_answer text) text)
+use Rattle.connection_desk.proofs.Rests.{rest_at_first, rest_step_from}
 
 -- ---- the unit at a place is written
 
@@ -124,7 +97,7 @@ given_to_none order place f owed missing none =
     subst (λ now. IsGiven order now [] owed) (sym (none_written place f owed missing)) (all_kept order owed none)
 
 -- as answered
-pub given_answered : (changes : AtChanged OwedUnit) (stay : WithoutAbove OwedUnit) (place : ℕ) (f : OwedUnit → OwedUnit) (unit : OwedUnit) (owed : Units) → Ascending owed → at place owed ≡ Some unit → leaving AsAnswered owed ≡ []
+given_answered : (changes : AtChanged OwedUnit) (stay : WithoutAbove OwedUnit) (place : ℕ) (f : OwedUnit → OwedUnit) (unit : OwedUnit) (owed : Units) → Ascending owed → at place owed ≡ Some unit → leaving AsAnswered owed ≡ []
     → IsGiven AsAnswered (changed_at place f owed) (complete_text_in (Some (f unit))) (cond (is_complete (f unit)) (without place owed) (changed_at place f owed))
 given_answered changes stay place f unit owed order there none =
     let now = changed_at place f owed in
@@ -142,6 +115,18 @@ given_answered changes stay place f unit owed order there none =
     capped_twice : (n : ℕ) → capped (capped n) ≡ capped n
     capped_twice n = omega arith
 
+-- it isn't complete yet
+pub answered_waits : (changes : AtChanged OwedUnit) (stay : WithoutAbove OwedUnit) (place : ℕ) (f : OwedUnit → OwedUnit) (unit : OwedUnit) (owed : Units) → Ascending owed → at place owed ≡ Some unit → leaving AsAnswered owed ≡ []
+    → is_complete (f unit) ≡ false → IsGiven AsAnswered (changed_at place f owed) [] (changed_at place f owed)
+answered_waits changes stay place f unit owed order there none open_yet =
+    subst (λ b. IsGiven AsAnswered (changed_at place f owed) (cond b (unit_texts (f unit)) []) (cond b (without place owed) (changed_at place f owed))) open_yet (given_answered changes stay place f unit owed order there none)
+
+-- its answer goes out
+pub answered_goes : (changes : AtChanged OwedUnit) (stay : WithoutAbove OwedUnit) (place : ℕ) (f : OwedUnit → OwedUnit) (unit : OwedUnit) (owed : Units) → Ascending owed → at place owed ≡ Some unit → leaving AsAnswered owed ≡ []
+    → is_complete (f unit) ≡ true → IsGiven AsAnswered (changed_at place f owed) (unit_texts (f unit)) (without place owed)
+answered_goes changes stay place f unit owed order there none whole =
+    subst (λ b. IsGiven AsAnswered (changed_at place f owed) (cond b (unit_texts (f unit)) []) (cond b (without place owed) (changed_at place f owed))) whole (given_answered changes stay place f unit owed order there none)
+
 -- ---- as came, the first
 
 pub first_changed : (place : ℕ) (f : OwedUnit → OwedUnit) (owed : Units) → first_number (changed_at place f owed) ≡ first_number owed
@@ -158,27 +143,43 @@ front_waits changes place f unit owed there first open_yet =
     let here : at place now ≡ Some (f unit) = at_here_changed changes place f unit owed there in
     sym (ap complete_front (from_first place f owed first)) ∙ front_stops place now (ap complete_in here ∙ open_yet)
 
+abbrev tail : Units → Units
+tail [] = []
+tail (e ∷ es) = es
+
+-- those behind it are the same
+behind_same : (above : AtAbove OwedUnit) (changes : AtChanged OwedUnit) (place : ℕ) (f : OwedUnit → OwedUnit) (unit : OwedUnit) (owed : Units) → Ascending owed → at place owed ≡ Some unit → first_number owed ≡ Some place
+    → rest_of (next_number place (changed_at place f owed)) (changed_at place f owed) ≡ rest_of (next_number place owed) owed
+behind_same above changes place f unit [] order there first = cc
+behind_same above changes place f unit (e ∷ es) order there first =
+    let wanted = changed_at place f (e ∷ es) in
+    let here : at place wanted ≡ Some (f unit) = at_here_changed changes place f unit (e ∷ es) there in
+    let number : e.0 ≡ place = ap (λ o. unwrap_or o e.0) first in
+    ap tail (sym (rest_step_from above place (f unit) wanted (ascending_changed place f (e ∷ es) order) here) ∙ from_first place f (e ∷ es) first)
+    ∙ changed_above place f es (subst (λ m. Above m es) number order.0)
+    ∙ sym (ap tail (sym (rest_step_from above place unit (e ∷ es) order there) ∙ rest_at_first (Some place) place (e ∷ es) first refl))
+
 -- it goes out, and those behind it do that are complete
 pub front_goes : (above : AtAbove OwedUnit) (changes : AtChanged OwedUnit) (place : ℕ) (f : OwedUnit → OwedUnit) (unit : OwedUnit) (owed : Units) → Ascending owed → at place owed ≡ Some unit → first_number owed ≡ Some place
     → is_complete (f unit) ≡ true
-    → (now : Units) → now ≡ changed_at place f owed
-    → IsGiven AsCame (changed_at place f owed) (unit_texts (f unit) ++ answer_texts (complete_front (rest_of (next_number place now) now))) (incomplete_rest (rest_of (next_number place now) now))
-front_goes above changes place f unit owed order there first whole now is =
+    → IsGiven AsCame (changed_at place f owed) (unit_texts (f unit) ++ answer_texts (complete_front (rest_of (next_number place owed) owed))) (incomplete_rest (rest_of (next_number place owed) owed))
+front_goes above changes place f unit owed order there first whole =
     let wanted = changed_at place f owed in
     let here : at place wanted ≡ Some (f unit) = at_here_changed changes place f unit owed there in
     let done : complete_at place wanted ≡ true = ap complete_in here ∙ whole in
     let ascends = ascending_changed place f owed order in
     let from = from_first place f owed first in
+    let same = sym (behind_same above changes place f unit owed order there first) in
     let own : complete_text_at place wanted ≡ unit_texts (f unit) = ap complete_text_in here ∙ ap (λ b. cond b (unit_texts (f unit)) []) whole in
-    let texts : unit_texts (f unit) ++ answer_texts (complete_front (rest_of (next_number place now) now)) ≡ answer_texts (complete_front wanted) =
-    ap (λ es. unit_texts (f unit) ++ answer_texts (complete_front (rest_of (next_number place es) es))) is
+    let texts : unit_texts (f unit) ++ answer_texts (complete_front (rest_of (next_number place owed) owed)) ≡ answer_texts (complete_front wanted) =
+    ap (λ es. unit_texts (f unit) ++ answer_texts (complete_front es)) same
     ∙ ap (λ ts. ts ++ answer_texts (complete_front (rest_of (next_number place wanted) wanted))) (sym own)
     ∙ sym (front_more above place wanted ascends done)
     ∙ ap (λ es. answer_texts (complete_front es)) from in
     record {
       texts_are = texts;
       count = ap (λ ts. capped (length ts)) texts ∙ ap capped (sym (count_texts (complete_front wanted)));
-      rest_is = ap (λ es. incomplete_rest (rest_of (next_number place es) es)) is ∙ front_rest above place wanted ascends done ∙ ap incomplete_rest from;
+      rest_is = ap incomplete_rest same ∙ front_rest above place wanted ascends done ∙ ap incomplete_rest from;
     }
 
 -- ---- as came, one behind the first

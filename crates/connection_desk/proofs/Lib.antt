@@ -1,9 +1,11 @@
 pub mod Admitted
 pub mod Answered
 pub mod Counting
+pub mod DeskParts
 pub mod Entries
 pub mod GivenSlots
 pub mod GivenTexts
+pub mod LoneCalls
 pub mod OwedLists
 pub mod Owing
 pub mod Reached

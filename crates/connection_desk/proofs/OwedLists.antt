@@ -205,11 +205,14 @@ joined_few : (batch : Bool) (texts : List (List ℕ)) → length (joined batch t
 joined_few batch [] = omega arith
 joined_few batch (t ∷ ts) = omega arith
 
+pub unit_few : (unit : OwedUnit) → length (unit_texts unit) ≤ 1
+unit_few unit = joined_few unit.is_batch (texts_of unit)
+
 few_either : (b : Bool) (unit : OwedUnit) → length (cond b (unit_texts unit) []) ≤ 1
-few_either true unit = joined_few unit.is_batch (texts_of unit)
+few_either true unit = unit_few unit
 few_either false unit = omega arith
 
-pub texts_few : (o : Option OwedUnit) → length (complete_text_in o) ≤ 1
+texts_few : (o : Option OwedUnit) → length (complete_text_in o) ≤ 1
 texts_few None = omega arith
 texts_few (Some unit) = few_either (is_complete unit) unit
 

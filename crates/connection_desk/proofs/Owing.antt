@@ -1,12 +1,11 @@
 -- What goes out and what stays of the answers that are owed.
-use Rattle.std.proofs.Common.{◌≡◌, ℕ, ◌<◌, not, Bool, true, false, cond, List, [], ◌∷◌, ◌++◌, length, Option, refl, ap, ◌∙◌, arith, append-nil}
+use Rattle.std.proofs.Common.{◌≡◌, ℕ, ◌<◌, not, Bool, true, false, cond, List, [], ◌∷◌, ◌++◌, refl, ap, ◌∙◌, arith}
 use Rattle.std.proofs.lemmas.Bool.{ne_eqb}
 use Rattle.std.proofs.lemmas.List.Elements.{filter-append}
 use Rattle.std.specs.List.{filter}
 use Rattle.connection_history.specs.declared.order.Order.{Order}
 use Rattle.connection_history.specs.declared.order.Order.TheVariants.{AsAnswered, AsCame}
-use Rattle.owed_answers.specs.Owed.{OwedUnit, OwedState, lacking_slots}
-use Rattle.connection_steps.specs.States.{owed_slots}
+use Rattle.owed_answers.specs.Owed.{OwedUnit, OwedState, lacking}
 use Rattle.connection_steps.specs.Steps.{is_complete, complete_front, incomplete_rest, leaving, staying}
 
 abbrev pub state_of : ℕ → List (ℕ × OwedUnit) → OwedState
@@ -56,15 +55,6 @@ pub none-leaving : (order : Order) (es : List (ℕ × OwedUnit)) → leaving ord
 none-leaving AsAnswered es = none_filter (λ e. is_complete e.1) es
 none-leaving AsCame es = none_rest es
 
--- ---- a unit with nothing to answer
-
-pub empty_of : {X : Type 0} (xs : List X) → length xs ≡ 0 → xs ≡ []
-empty_of [] is = refl
-empty_of (x ∷ xs) is = absurd (omega arith)
-
-pub owed-none : (order : Order) (place : ℕ) (batch : Bool) (es : List (ℕ × OwedUnit)) → leaving order es ≡ [] → staying order (es ++ owed_slots place batch []) ≡ es
-owed-none order place batch es none = ap (λ fs. staying order fs) (append-nil es) ∙ all-staying order es none
-
 -- ---- a unit with an answer that isn't known yet
 
 front_behind_step : (b : Bool) (e : ℕ × OwedUnit) (front more : List (ℕ × OwedUnit)) → cond b (e ∷ front) [] ≡ [] → cond b (e ∷ more) [] ≡ []
@@ -80,14 +70,9 @@ none_behind AsAnswered es fs none more =
     filter-append (λ e. is_complete e.1) es fs ∙ ap (λ gs. gs ++ leaving AsAnswered fs) none ∙ more
 none_behind AsCame es fs none more = front_behind es fs none more
 
-none_lacking : (order : Order) (place : ℕ) (batch : Bool) (slots : List (Option (List ℕ))) → 0 < lacking_slots slots → leaving order (owed_slots place batch slots) ≡ []
-none_lacking order place batch [] some = absurd (omega (arith, some))
-none_lacking AsAnswered place batch (s ∷ ss) some =
-    ap (λ b. cond b (owed_slots place batch (s ∷ ss)) []) (ne_eqb (lacking_slots (s ∷ ss)) 0 (λ none. omega (arith, none, some)))
-none_lacking AsCame place batch (s ∷ ss) some =
-    ap (λ b. cond b (owed_slots place batch (s ∷ ss)) []) (ne_eqb (lacking_slots (s ∷ ss)) 0 (λ none. omega (arith, none, some)))
+none_lacking : (order : Order) (place : ℕ) (unit : OwedUnit) → 0 < lacking unit → leaving order ((place, unit) ∷ []) ≡ []
+none_lacking AsAnswered place unit some = ap (λ b. cond b ((place, unit) ∷ []) []) (ne_eqb (lacking unit) 0 (λ none. omega (arith, none, some)))
+none_lacking AsCame place unit some = ap (λ b. cond b ((place, unit) ∷ []) []) (ne_eqb (lacking unit) 0 (λ none. omega (arith, none, some)))
 
-pub lacking-stays : (order : Order) (place : ℕ) (batch : Bool) (slots : List (Option (List ℕ))) (es : List (ℕ × OwedUnit)) → leaving order es ≡ [] → 0 < lacking_slots slots
-    → leaving order (es ++ owed_slots place batch slots) ≡ []
-lacking-stays order place batch slots es none some =
-    none_behind order es (owed_slots place batch slots) none (none_lacking order place batch slots some)
+pub lacking-stays : (order : Order) (place : ℕ) (unit : OwedUnit) (es : List (ℕ × OwedUnit)) → leaving order es ≡ [] → 0 < lacking unit → leaving order (es ++ (place, unit) ∷ []) ≡ []
+lacking-stays order place unit es none some = none_behind order es ((place, unit) ∷ []) none (none_lacking order place unit some)

@@ -1,5 +1,5 @@
 -- The states of calls and of owed answers, by their parts.
-use Rattle.std.proofs.Common.{ℕ, Bool, List, Option}
+use Rattle.std.proofs.Common.{ℕ, List}
 use Rattle.open_calls.specs.declared.own_call.OwnCall.{OwnCall}
 use Rattle.open_calls.specs.declared.their_call.TheirCall.{TheirCall}
 use Rattle.open_calls.specs.Own.{OwnState}
@@ -14,6 +14,3 @@ their_state came calls = record { came = came; calls = calls }
 
 abbrev pub owed_state : ℕ → List (ℕ × OwedUnit) → OwedState
 owed_state places owed = record { places = places; owed = owed }
-
-abbrev pub unit_of : Bool → List (Option (List ℕ)) → OwedUnit
-unit_of is_batch slots = record { is_batch = is_batch; slots = slots }

@@ -24,7 +24,7 @@ use Rattle.open_calls.specs.declared.own_call.OwnCall.{OwnCall}
 use Rattle.open_calls.specs.Own.{OwnState, is_wanted_by}
 use Rattle.open_calls.specs.Theirs.{TheirState, new_call, is_reached, cancelled}
 use Rattle.open_calls.specs.Numbered.{at, up_to, without}
-use Rattle.owed_answers.specs.Owed.{OwedUnit, seen_slot, seen_slots, unit_texts}
+use Rattle.owed_answers.specs.Owed.{OwedUnit, unit_texts}
 use Rattle.connection_history.specs.declared.order.Order.TheVariants.{AsAnswered, AsCame}
 use Rattle.connection_steps.specs.States.{is_batch, owed_slots, slot_count}
 use Rattle.connection_steps.specs.Steps.{leaving, is_complete, new_unit_slots, reached_numbers, own_after}
@@ -32,8 +32,6 @@ use Rattle.connection_desk.specs.declared.answering.Given.TheVariants as given
 use Rattle.connection_desk.specs.declared.answering.Given.{Given}
 use Rattle.connection_desk.specs.declared.events.Events.{Events}
 use Rattle.connection_desk.specs.declared.tally.Tally.{Tally}
-use Rattle.connection_desk.specs.declared.unit_slots.UnitSlots.{UnitSlots}
-use Rattle.connection_desk.specs.declared.unit_slots.UnitSlots.TheVariants.{Nothing, One, Several}
 
 -- the last event, where the input is over
 abbrev pub over_event : Option Close → List Event
@@ -81,11 +79,6 @@ abbrev pub rest_of : {X : Type 0} → Option ℕ → List (ℕ × X) → List (�
 rest_of None all = []
 rest_of (Some number) all = rest_from number all
 
--- a unit that is no batch, and has one answer
-pub record IsAlone (unit : OwedUnit) : Type 0 where
-  pub no_batch : unit.is_batch ≡ false
-  pub one : length unit.slots ≡ 1
-
 -- As answered, no unit but the one at this place has all of its answers.
 abbrev pub OnlyAt : Order → ℕ → List (ℕ × OwedUnit) → Type 0
 OnlyAt AsAnswered place owed = leaving AsAnswered (without place owed) ≡ []
@@ -100,21 +93,10 @@ pub record IsDesk (order : Order) (owed : List (ℕ × OwedUnit)) (is_over : Boo
 
 -- ---- the answers of a unit that comes
 
--- its slots, as a list
-abbrev pub slots_in : UnitSlots → List (Option (List ℕ))
-slots_in Nothing = []
-slots_in (One slot) = seen_slot slot ∷ []
-slots_in (Several slots) = seen_slots slots.items
-
--- whether they are those of a batch
-abbrev pub are_several : UnitSlots → Bool
-are_several Nothing = false
-are_several (One slot) = false
-are_several (Several slots) = true
-
--- what the unit at this place is owed
-abbrev pub owed_in : ℕ → UnitSlots → List (ℕ × OwedUnit)
-owed_in place slots = owed_slots place (are_several slots) (slots_in slots)
+-- what the unit at this place is owed, where it is owed anything
+abbrev pub owed_in : ℕ → Option OwedUnit → List (ℕ × OwedUnit)
+owed_in place None = []
+owed_in place (Some unit) = (place, unit) ∷ []
 
 -- ---- a unit's calls are open before its entries do anything
 
@@ -131,10 +113,9 @@ added_calls place slot came [] = []
 added_calls place slot came (e ∷ es) =
     added_call place slot came e ++ added_calls place (slot + slot_count e) (came + length (call_in e)) es
 
--- The calls of the unit at this place are open, and these are the slots of its answer.
-pub record IsAdmitted (place : ℕ) (unit : units.Unit) (was : TheirState) (slots : UnitSlots) (now : TheirState) : Type 0 where
-  pub slots_are : slots_in slots ≡ new_unit_slots unit
-  pub batch : are_several slots ≡ is_batch unit
+-- The calls of the unit at this place are open, and this is what it is owed.
+pub record IsAdmitted (place : ℕ) (unit : units.Unit) (was : TheirState) (due : Option OwedUnit) (now : TheirState) : Type 0 where
+  pub owed : owed_in place due ≡ owed_slots place (is_batch unit) (new_unit_slots unit)
   pub theirs : now ≡ record {
     came = was.came + length (calls_in (entries_in unit));
     calls = was.calls ++ added_calls place 0 was.came (entries_in unit);

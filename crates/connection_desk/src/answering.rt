@@ -156,6 +156,7 @@ fn answer_call(
 }
 
 /// The text of the slot of a request with this id. That of a call which is closed without an answer is empty.
+#[inline(always)]
 fn write_given(
     alloc: Global,
     room: &mut Vec<u8>,

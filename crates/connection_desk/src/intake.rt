@@ -1,32 +1,26 @@
 //! Units that come. What needs memory is done first, for the whole unit; what its entries do is settled then, in their
 //! order.
 
-ghost use Rattle.std.specs.Prelude.{◌≡◌, ◌≤◌, ◌<◌, ◌+◌, ◌-◌, ◌^◌, ◌++◌, ◌∷◌, [], length, filter, flat_map, map, false, option_to_list, IfOk, OnOk, OnErr};
-ghost use Rattle.message_ids.specs.declared.id.Id.TheVariants.{Null};
-ghost use Rattle.message_ids.specs.declared.standard.Standard.TheVariants.{ParseError};
-ghost use Rattle.connection_messages.specs.declared.answer.Answer.TheVariants.{Standard as standard_answer};
-ghost use Rattle.connection_messages.specs.Texts.{answer_text};
+ghost use Rattle.std.specs.Prelude.{◌≡◌, ◌≤◌, ◌<◌, ◌+◌, ◌^◌, ◌++◌, ◌∷◌, [], ℕ, length, filter, flat_map, map, true, false, option_to_list, IfOk, OnOk, OnErr};
 ghost use Rattle.connection_history.specs.Stream.{call_in, calls_in, entries_in};
 ghost use Rattle.connection_history.specs.declared.event.Event.TheVariants.{Broken as broken_told};
-ghost use Rattle.owed_answers.specs.Owed.{seen_slots};
 ghost use Rattle.open_calls.specs.Theirs.{new_call};
-ghost use Rattle.connection_steps.specs.States.{is_batch};
-ghost use Rattle.connection_steps.specs.Steps.{leaving, staying, new_call_slots, new_slots, new_unit_slots};
+ghost use Rattle.connection_steps.specs.States.{owed_slots};
+ghost use Rattle.connection_steps.specs.Steps.{leaving, staying, new_call_slots, new_slots};
 ghost use Rattle.connection_desk.specs.Desks.{answer_count, answer_texts, with_answers, with_texts};
-ghost use Rattle.connection_desk.specs.Inner.{IsAdmitted, IsLonger, IsOpenEnded, added_call, added_calls, are_several, has_cancel as has_cancel_in, is_telling as is_telling_entry, most_events as most_events_in, owed_in, room_of, slots_in, untold_of};
+ghost use Rattle.connection_desk.specs.Inner.{IsAdmitted, IsLonger, IsOpenEnded, added_call, added_calls, has_cancel as has_cancel_in, is_telling as is_telling_entry, most_events as most_events_in, owed_in, room_of, untold_of};
 
 use crate::desk::{Desk, let_go};
 use crate::events::Events;
 use crate::leaving::let_out;
 use crate::settling::settle;
 use crate::tally::Tally;
-use crate::unit_slots::UnitSlots;
 use connection_history::{Broken, Event, Order};
-use connection_messages::{Answer, Entry, Unit, write_answer};
-use message_ids::{Id, Standard};
+use connection_messages::{Entry, Unit};
+use message_ids::Id;
 use open_calls::{TheirCall, TheirCalls, numbers_above_one, numbers_below_one};
 use outbox::Outbox;
-use owed_answers::{OwedAnswers, Slot};
+use owed_answers::{Batch, Owed, OwedAnswers, Slot};
 use std::alloc::{AllocError, Global};
 
 impl Desk {
@@ -47,7 +41,7 @@ impl Desk {
         let came = self.theirs.came();
         let place = self.owed.places();
         let first = broken.is_some() as usize;
-        let slots = admit(
+        let due = admit(
             self.alloc,
             &mut self.theirs,
             &mut self.events,
@@ -61,7 +55,7 @@ impl Desk {
             &mut self.outbox,
             &mut self.room,
             &mut self.tally,
-            slots,
+            due,
         );
         let_go(self.alloc, &mut self.room);
         if let Err(refused) = owed {
@@ -81,28 +75,28 @@ impl Desk {
     }
 }
 
-/// A unit is owed these answers, and those that can go out do.
+/// A unit is owed this, where it is owed anything, and the answers that can go out do.
 fn owe(
     order: Order,
     owed: &mut OwedAnswers,
     outbox: &mut Outbox,
     room: &mut Vec<u8>,
     tally: &mut Tally,
-    slots: UnitSlots,
+    due: Option<Owed>,
 ) -> Result<(), AllocError>
     requires { leaving order owed.old.owed ≡ [] }
     ensures owed { OnOk result (owed.new ≡ record {
       places = owed.old.places + 1;
       owed = staying order
-          (owed.old.owed ++ owed_in owed.old.places slots);
+          (owed.old.owed ++ owed_in owed.old.places due);
     }) }
     ensures outbox { OnOk result (outbox.new ≡ with_texts
         (answer_texts (leaving order
-        (owed.old.owed ++ owed_in owed.old.places slots)))
+        (owed.old.owed ++ owed_in owed.old.places due)))
         outbox.old) }
     ensures tally { OnOk result (tally.new ≡ with_answers
         (answer_count (leaving order
-        (owed.old.owed ++ owed_in owed.old.places slots)))
+        (owed.old.owed ++ owed_in owed.old.places due)))
         tally.old) }
     ensures owed_err { OnErr result (owed.new ≡ owed.old) }
     ensures outbox_err { OnErr result (outbox.new ≡ outbox.old) }
@@ -112,14 +106,14 @@ fn owe(
     if place == u64::MAX {
         return Err(AllocError);
     }
-    if slots.is_empty() {
+    let Some(unit) = due else {
         // The prover has the range of a count once it is read.
         let _answers = tally.answers;
         owed.skip();
         return Ok(());
-    }
-    let is_lacking = slots.is_lacking();
-    open(owed, slots)?;
+    };
+    let is_lacking = unit.lacking() > 0;
+    owed.open(unit)?;
     if is_lacking {
         // The prover has the range of a count once it is read.
         let _answers = tally.answers;
@@ -137,25 +131,8 @@ fn owe(
     }
 }
 
-/// The unit at the next place is owed these answers. There are some.
-fn open(owed: &mut OwedAnswers, slots: UnitSlots) -> Result<(), AllocError>
-    requires places { owed.old.places < 2 ^ 64 - 1 }
-    requires some { 0 < length (slots_in slots) }
-    ensures ok { OnOk result (owed.new ≡ record {
-      places = owed.old.places + 1;
-      owed = owed.old.owed ++ owed_in owed.old.places slots;
-    }) }
-    ensures err { OnErr result (owed.new ≡ owed.old) }
-{
-    match slots {
-        UnitSlots::Nothing => Ok(()),
-        UnitSlots::One(slot) => owed.open_single(slot),
-        UnitSlots::Several(slots) => owed.open_batch(slots),
-    }
-}
-
 /// All else of a unit that needs memory: its calls are open, and there is room for its events and for so many that come
-/// first. Answers the slots of its answer.
+/// first. Answers what it is owed.
 fn admit(
     alloc: Global,
     theirs: &mut TheirCalls,
@@ -163,9 +140,9 @@ fn admit(
     place: u64,
     unit: &Unit,
     first: usize,
-) -> Result<UnitSlots, AllocError>
+) -> Result<Option<Owed>, AllocError>
     requires { theirs.old.came + length (calls_in (entries_in unit.now)) < 2 ^ 64 }
-    ensures ok { IfOk result (λ slots. IsAdmitted place unit.now theirs.old slots theirs.new) }
+    ensures ok { IfOk result (λ due. IsAdmitted place unit.now theirs.old due theirs.new) }
     ensures room { OnOk result
         (first + most_events_in (length theirs.new.calls) (entries_in unit.now) ≤
         room_of events.new) }
@@ -176,7 +153,7 @@ fn admit(
 {
     let came = theirs.came();
     match admit_all(alloc, theirs, events, place, unit, first) {
-        Ok(slots) => Ok(slots),
+        Ok(due) => Ok(due),
         Err(refused) => {
             theirs.take_back(came);
             Err(refused)
@@ -192,9 +169,9 @@ fn admit_all(
     place: u64,
     unit: &Unit,
     first: usize,
-) -> Result<UnitSlots, AllocError>
+) -> Result<Option<Owed>, AllocError>
     requires { theirs.old.came + length (calls_in (entries_in unit.now)) < 2 ^ 64 }
-    ensures ok { IfOk result (λ slots. IsAdmitted place unit.now theirs.old slots theirs.new) }
+    ensures ok { IfOk result (λ due. IsAdmitted place unit.now theirs.old due theirs.new) }
     ensures room { OnOk result
         (first + most_events_in (length theirs.new.calls) (entries_in unit.now) ≤
         room_of events.new) }
@@ -202,12 +179,12 @@ fn admit_all(
     ensures untold { untold_of events.new ≡ untold_of events.old }
     ensures open { IsOpenEnded events.old → IsOpenEnded events.new }
 {
-    let slots = admit_unit(alloc, theirs, place, unit)?;
+    let due = admit_unit(alloc, theirs, place, unit)?;
     let Some(count) = most_events(unit, theirs.len())?.checked_add(first) else {
         return Err(AllocError);
     };
     events.reserve(count)?;
-    Ok(slots)
+    Ok(due)
 }
 
 /// At most so many events come with a unit, where so many calls are open then. A place is counted for each call and each
@@ -279,35 +256,33 @@ fn tell_broken(events: &mut Events, broken: Option<Broken>)
     }
 }
 
-/// Opens the calls of the unit at this place, and answers its slots.
+/// Opens the calls of the unit at this place, and answers what it is owed.
 fn admit_unit(
     alloc: Global,
     theirs: &mut TheirCalls,
     place: u64,
     unit: &Unit,
-) -> Result<UnitSlots, AllocError>
+) -> Result<Option<Owed>, AllocError>
     requires { theirs.old.came + length (calls_in (entries_in unit.now)) < 2 ^ 64 }
-    ensures ok { IfOk result (λ slots. IsAdmitted place unit.now theirs.old slots theirs.new) }
+    ensures ok { IfOk result (λ due. IsAdmitted place unit.now theirs.old due theirs.new) }
     ensures longer { IsLonger theirs.old theirs.new }
 {
     match unit {
-        Unit::Unreadable => {
-            let text = parse_error(alloc)?;
-            Ok(UnitSlots::One(Slot::Text(text)))
-        }
+        Unit::Unreadable => Ok(Some(Owed::single(Slot::Unreadable))),
         Unit::Single(entry) => admit_single(theirs, place, entry),
-        Unit::Batch(entries) => {
-            let slots = admit_entries(alloc, theirs, place, entries.as_slice())?;
-            Ok(UnitSlots::Several(slots))
-        }
+        Unit::Batch(entries) => admit_batch(alloc, theirs, place, entries.as_slice()),
     }
 }
 
-/// Opens the call of an entry that is a unit by itself, and answers its slots.
-fn admit_single(theirs: &mut TheirCalls, place: u64, entry: &Entry) -> Result<UnitSlots, AllocError>
+/// Opens the call of an entry that is a unit by itself, and answers what it is owed.
+fn admit_single(
+    theirs: &mut TheirCalls,
+    place: u64,
+    entry: &Entry,
+) -> Result<Option<Owed>, AllocError>
     requires { theirs.old.came + length (call_in entry.now) < 2 ^ 64 }
-    ensures slots { IfOk result (λ slots. slots_in slots ≡ new_slots entry.now) }
-    ensures batch { IfOk result (λ slots. are_several slots ≡ false) }
+    ensures owed { IfOk result (λ due.
+        owed_in place due ≡ owed_slots place false (new_slots entry.now)) }
     ensures theirs { OnOk result (theirs.new ≡ record {
       came = theirs.old.came + length (call_in entry.now);
       calls = theirs.old.calls ++ added_call place 0 theirs.old.came entry.now;
@@ -317,22 +292,45 @@ fn admit_single(theirs: &mut TheirCalls, place: u64, entry: &Entry) -> Result<Un
     match entry {
         Entry::Call(call) => {
             theirs.add(call.id.clone()?, place, 0)?;
-            Ok(call_slots(&call.id))
+            Ok(call_owed(&call.id))
         }
-        Entry::Invalid => Ok(UnitSlots::One(Slot::Invalid)),
-        Entry::Cancel(_) | Entry::Reply { .. } | Entry::Stray => Ok(UnitSlots::Nothing),
+        Entry::Invalid => Ok(Some(Owed::single(Slot::Invalid))),
+        Entry::Cancel(_) | Entry::Reply { .. } | Entry::Stray => Ok(None),
     }
 }
 
-/// The slots of a call that is a unit by itself.
-fn call_slots(id: &Option<Id>) -> UnitSlots
-    ensures slots { slots_in result ≡ new_call_slots id.now }
-    ensures batch { are_several result ≡ false }
+/// What a call is owed that is a unit by itself.
+fn call_owed(id: &Option<Id>) -> Option<Owed>
+    ensures { (place : ℕ) → owed_in place result ≡ owed_slots place false (new_call_slots id.now) }
 {
     match id {
-        Some(_) => UnitSlots::One(Slot::Lacking),
-        None => UnitSlots::Nothing,
+        Some(_) => Some(Owed::single(Slot::Lacking)),
+        None => None,
     }
+}
+
+/// Opens the calls of a batch, and answers what it is owed.
+fn admit_batch(
+    alloc: Global,
+    theirs: &mut TheirCalls,
+    place: u64,
+    entries: &[Entry],
+) -> Result<Option<Owed>, AllocError>
+    requires { theirs.old.came + length (calls_in entries.now) < 2 ^ 64 }
+    ensures owed { IfOk result (λ due.
+        owed_in place due ≡ owed_slots place true (flat_map new_slots entries.now)) }
+    ensures theirs { OnOk result (theirs.new ≡ record {
+      came = theirs.old.came + length (calls_in entries.now);
+      calls = theirs.old.calls ++ added_calls place 0 theirs.old.came entries.now;
+    }) }
+    ensures longer { IsLonger theirs.old theirs.new }
+{
+    let batch = admit_entries(alloc, theirs, place, entries)?;
+    if batch.len() == 0 {
+        return Ok(None);
+    }
+    let unit = Owed::batch(alloc, batch)?;
+    Ok(Some(unit))
 }
 
 fn admit_entries(
@@ -340,20 +338,20 @@ fn admit_entries(
     theirs: &mut TheirCalls,
     place: u64,
     entries: &[Entry],
-) -> Result<Vec<Slot>, AllocError>
+) -> Result<Batch, AllocError>
     requires { theirs.old.came + length (calls_in entries.now) < 2 ^ 64 }
-    ensures slots { IfOk result (λ slots. seen_slots slots.items ≡ flat_map new_slots entries.now) }
+    ensures batch { IfOk result (λ batch. batch ≡ flat_map new_slots entries.now) }
     ensures theirs { OnOk result (theirs.new ≡ record {
       came = theirs.old.came + length (calls_in entries.now);
       calls = theirs.old.calls ++ added_calls place 0 theirs.old.came entries.now;
     }) }
     ensures longer { IsLonger theirs.old theirs.new }
 {
-    let mut slots = Vec::with_capacity(alloc, slot_count(entries))?;
+    let mut batch = Batch::new(alloc, slot_count(entries))?;
     for entry in entries {
-        admit_entry(theirs, place, entry, &mut slots)?;
+        admit_entry(theirs, place, entry, &mut batch)?;
     }
-    Ok(slots)
+    Ok(batch)
 }
 
 /// How many slots the entries bring. Room for all of them at once is just that, where room that grows may be twice as
@@ -374,24 +372,20 @@ fn admit_entry(
     theirs: &mut TheirCalls,
     place: u64,
     entry: &Entry,
-    slots: &mut Vec<Slot>,
+    batch: &mut Batch,
 ) -> Result<(), AllocError>
     requires { theirs.old.came + length (call_in entry.now) < 2 ^ 64 }
-    ensures slots { OnOk result (seen_slots slots.new.items ≡
-        seen_slots slots.old.items ++ new_slots entry.now) }
+    ensures batch { OnOk result (batch.new ≡ batch.old ++ new_slots entry.now) }
     ensures theirs { OnOk result (theirs.new ≡ record {
       came = theirs.old.came + length (call_in entry.now);
       calls = theirs.old.calls ++
-          added_call place (length slots.old.items) theirs.old.came entry.now;
+          added_call place (length batch.old) theirs.old.came entry.now;
     }) }
     ensures longer { IsLonger theirs.old theirs.new }
 {
     match entry {
-        Entry::Call(call) => admit_call(theirs, place, &call.id, slots),
-        Entry::Invalid => {
-            slots.push(Slot::Invalid)?;
-            Ok(())
-        }
+        Entry::Call(call) => admit_call(theirs, place, &call.id, batch),
+        Entry::Invalid => batch.push(Slot::Invalid),
         Entry::Cancel(_) | Entry::Reply { .. } | Entry::Stray => Ok(()),
     }
 }
@@ -400,36 +394,21 @@ fn admit_call(
     theirs: &mut TheirCalls,
     place: u64,
     id: &Option<Id>,
-    slots: &mut Vec<Slot>,
+    batch: &mut Batch,
 ) -> Result<(), AllocError>
     requires { theirs.old.came + 1 < 2 ^ 64 }
-    ensures slots { OnOk result (seen_slots slots.new.items ≡
-        seen_slots slots.old.items ++ new_call_slots id.now) }
+    ensures batch { OnOk result (batch.new ≡ batch.old ++ new_call_slots id.now) }
     ensures theirs { OnOk result (theirs.new ≡ record {
       came = theirs.old.came + 1;
       calls = theirs.old.calls ++
-          (theirs.old.came + 1, new_call id.now place (length slots.old.items)) ∷ [];
+          (theirs.old.came + 1, new_call id.now place (length batch.old)) ∷ [];
     }) }
     ensures longer { IsLonger theirs.old theirs.new }
 {
-    let slot = slots.len() as u64;
+    let slot = batch.len() as u64;
     theirs.add(id.clone()?, place, slot)?;
     if id.is_some() {
-        slots.push(Slot::Lacking)?;
+        batch.push(Slot::Lacking)?;
     }
     Ok(())
-}
-
-/// The text of the answer to a content that is unreadable.
-fn parse_error(alloc: Global) -> Result<Vec<u8>, AllocError>
-    ensures { IfOk result (λ text. text.items ≡ answer_text Null (standard_answer ParseError)) }
-{
-    let mut text = Vec::new(alloc);
-    write_answer(
-        alloc,
-        &mut text,
-        &Id::Null,
-        &Answer::Standard(Standard::ParseError),
-    )?;
-    Ok(text)
 }

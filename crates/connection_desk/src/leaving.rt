@@ -93,11 +93,7 @@ fn write_complete(
 }
 
 /// Writes the answer of a unit that is complete, and says how many that is, one or none.
-pub(crate) fn write_unit(
-    unit: &Owed,
-    outbox: &mut Outbox,
-    room: &mut Vec<u8>,
-) -> Result<u64, AllocError>
+fn write_unit(unit: &Owed, outbox: &mut Outbox, room: &mut Vec<u8>) -> Result<u64, AllocError>
     ensures count { IfOk result (λ count. count ≡ length (unit_texts unit.now)) }
     ensures ok { OnOk result (outbox.new ≡ with_texts (unit_texts unit.now) outbox.old) }
     ensures err { OnErr result (outbox.new ≡ outbox.old) }

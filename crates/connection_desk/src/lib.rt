@@ -3,6 +3,7 @@
 #![tactic(auto)]
 
 mod answering;
+mod calls;
 mod desk;
 mod ending;
 mod events;
@@ -12,7 +13,6 @@ mod leaving;
 mod saying;
 mod settling;
 mod tally;
-mod unit_slots;
 
 pub use desk::Desk;
 pub use tally::Tally;

@@ -1,5 +1,5 @@
 -- The members of a compact object, noted as they pass.
-use Rattle.std.proofs.Common.{◌≡◌, ℕ, ◌+◌, ◌-◌, ◌<◌, ◌≤◌, List, [], ◌∷◌, ◌++◌, length, take, drop, get_or, Bool, true, false, cond, Option, Some, None, option_map, if◌then◌else◌, Bor, refl, sym, ap, ◌∙◌, subst, arith, suc, append_assoc, length-append, length-drop, drop-drop, get_or-drop}
+use Rattle.std.proofs.Common.{◌≡◌, ℕ, ◌+◌, ◌-◌, ◌≤◌, List, [], ◌∷◌, ◌++◌, length, take, drop, get_or, Bool, true, false, cond, Option, Some, None, option_map, if◌then◌else◌, Bor, refl, sym, ap, ◌∙◌, subst, arith, suc, append_assoc, length-append, length-drop, drop-drop, get_or-drop}
 use Rattle.std.specs.Prelude.{codes}
 use Rattle.std.specs.Str.{bytes_eq, IsUtf8, is_utf8}
 use Rattle.std.proofs.lemmas.Str.{is_utf8-from_IsUtf8}
@@ -86,16 +86,6 @@ same_truths : (a b : Bool) → (a ≡ true → b ≡ true) → (b ≡ true → a
 same_truths true b f g = sym (f refl)
 same_truths false true f g = g refl
 same_truths false false f g = refl
-
-pub too_short : (text word : List ℕ) → length text < length word → false ≡ begins text word
-too_short text word short = by_test (begins text word) refl
-  where
-    by_test : (b : Bool) → begins text word ≡ b → false ≡ b
-    by_test false is = refl
-    by_test true is =
-        let whole : length text ≡ length word + length (drop (length word) text) =
-        ap length ((starts_is Decides-eqb text word (begins text word) refl).0 is) ∙ length-append word (drop (length word) text) in
-        absurd (omega (arith, short, whole))
 
 -- what begins with a name and its quotes and the colon behind it, is a member of that name
 begins_same : (text name word quoted_word rest : List ℕ) → text ≡ (quoted name ++ 58 ∷ []) ++ rest → quoted_word ≡ quoted word ++ 58 ∷ [] → begins text quoted_word ≡ bytes_eq name word

@@ -7,4 +7,5 @@ pub(crate) mod entry;
 pub(crate) mod envelope;
 pub(crate) mod number;
 pub(crate) mod reply;
+pub(crate) mod rooms;
 pub(crate) mod unit;

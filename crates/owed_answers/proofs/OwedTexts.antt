@@ -1,14 +1,15 @@
--- The answers of a unit, text by text.
-use Rattle.std.proofs.Common.{◌≡◌, ℕ, ◌+◌, ◌≤◌, ◌<◌, ◌==◌, Bool, true, false, cond, List, [], ◌∷◌, ◌++◌, Result, Ok, Err, OnOk, OnErr, is_ok, if◌then◌else◌, length, take, drop, get_or, refl, ap, sym, subst, ◌∙◌, append_assoc, arith, map, suc, add-one, drop-cons}
+-- The answers of a batch, text by text.
+use Rattle.std.proofs.Common.{◌≡◌, ℕ, ◌+◌, ◌≤◌, ◌<◌, ◌==◌, Bool, true, false, cond, List, [], ◌∷◌, ◌++◌, None, Result, Ok, Err, OnOk, OnErr, is_ok, if◌then◌else◌, length, take, drop, refl, ap, sym, subst, ◌∙◌, append_assoc, arith, map, suc}
 use Rattle.std.proofs.lemmas.Grind.{common_steps}
 use Rattle.std.proofs.lemmas.Bool.Decides.{nat_tests}
-use Rattle.std.proofs.lemmas.List.{take_at, drop_all}
+use Rattle.std.proofs.lemmas.List.{take_at, drop_all, drop_more}
+use Rattle.std.proofs.lemmas.Option.{unwrap_or-slice_get}
 use Rattle.std.specs.Io.{StartsWith}
 use Rattle.std.specs.List.{filter, join_with_byte}
 use Rattle.connection_messages.specs.Texts.{batch_text}
-use Rattle.owed_answers.specs.declared.slot.Slot.{Slot}
+use Rattle.owed_answers.proofs.BatchLemmas.{Seen}
 use Rattle.owed_answers.specs.Inner.{behind, next_mark}
-use Rattle.owed_answers.specs.Owed.{is_answer, seen_slot, seen_slots, slot_text, slot_texts, some_text}
+use Rattle.owed_answers.specs.Owed.{is_answer, slot_in, slot_text, slot_texts, some_text}
 
 pub starts_with_append : (bytes front rest : List ℕ) → bytes ≡ front ++ rest → StartsWith bytes front
 starts_with_append bytes front rest is = ap (take (length front)) is ∙ take_at front rest (length front) refl
@@ -40,16 +41,12 @@ pub on_err : {X E P : Type 0} (r : Result X E) → P → OnErr r P
 on_err (Ok x) p = tt
 on_err (Err e) p = p
 
-drop_here : {X : Type 0} (xs : List X) (i : ℕ) (x : X) → i < length xs → x ≡ get_or xs i x → drop i xs ≡ x ∷ drop (i + 1) xs
-drop_here xs i x lt is = rw (drop-cons xs i x lt, add-one, ← is)
-
 -- ---- the answers in the slots that are left
 
-abbrev pub text_in : Slot → List ℕ
-text_in slot = slot_text (seen_slot slot)
-
-abbrev pub texts_in : List Slot → List (List ℕ)
-texts_in slots = slot_texts (seen_slots slots)
+drop_here : (slots : Seen) (i : ℕ) (text : List ℕ) → i < length slots → text ≡ slot_text (slot_in i slots) → slot_texts (drop i slots) ≡ filter is_answer (text ∷ map slot_text (drop (i + 1) slots))
+drop_here slots i text lt is =
+    ap slot_texts (drop_more slots i None lt)
+    ∙ ap (λ t. filter is_answer (t ∷ map slot_text (drop (i + 1) slots))) (sym (is ∙ ap slot_text (unwrap_or-slice_get slots i None)))
 
 -- a text that isn't empty is an answer, and one that is empty isn't
 filled : (text : List ℕ) (empty : Bool) → empty ≡ (length text == 0) → empty ≡ false → is_answer text ≡ true
@@ -64,23 +61,21 @@ vacant [] empty is so = refl
 vacant (b ∷ bs) empty is so = absurd (never (length bs) (sym is ∙ so))
 
 -- an answer stands in this slot
-pub found_one : (slots : List Slot) (i : ℕ) (slot : Slot) (text : List ℕ) (empty : Bool) → i < length slots → slot ≡ get_or slots i slot → text ≡ text_in slot
-    → empty ≡ (length text == 0) → empty ≡ false → texts_in (drop i slots) ≡ text ∷ texts_in (drop (i + 1) slots)
-found_one slots i slot text empty lt here is test isnt =
-    let rest = texts_in (drop (i + 1) slots) in
-    let answers : is_answer (text_in slot) ≡ true = ap is_answer (sym is) ∙ filled text empty test isnt in
-    ap texts_in (drop_here slots i slot lt here) ∙ ap (λ b. cond b (text_in slot ∷ rest) rest) answers ∙ ap (λ t. t ∷ rest) (sym is)
+pub found_one : (slots : Seen) (i : ℕ) (text : List ℕ) (empty : Bool) → i < length slots → text ≡ slot_text (slot_in i slots)
+    → empty ≡ (length text == 0) → empty ≡ false → slot_texts (drop i slots) ≡ text ∷ slot_texts (drop (i + 1) slots)
+found_one slots i text empty lt is test isnt =
+    let rest = slot_texts (drop (i + 1) slots) in
+    drop_here slots i text lt is ∙ ap (λ b. cond b (text ∷ rest) rest) (filled text empty test isnt)
 
 -- none stands there
-pub passed_one : (slots : List Slot) (i : ℕ) (slot : Slot) (text : List ℕ) (empty : Bool) → i < length slots → slot ≡ get_or slots i slot → text ≡ text_in slot
-    → empty ≡ (length text == 0) → empty ≡ true → texts_in (drop (i + 1) slots) ≡ texts_in (drop i slots)
-passed_one slots i slot text empty lt here is test so =
-    let rest = texts_in (drop (i + 1) slots) in
-    let none : is_answer (text_in slot) ≡ false = ap is_answer (sym is) ∙ vacant text empty test so in
-    sym (ap texts_in (drop_here slots i slot lt here) ∙ ap (λ b. cond b (text_in slot ∷ rest) rest) none)
+pub passed_one : (slots : Seen) (i : ℕ) (text : List ℕ) (empty : Bool) → i < length slots → text ≡ slot_text (slot_in i slots)
+    → empty ≡ (length text == 0) → empty ≡ true → slot_texts (drop (i + 1) slots) ≡ slot_texts (drop i slots)
+passed_one slots i text empty lt is test so =
+    let rest = slot_texts (drop (i + 1) slots) in
+    sym (drop_here slots i text lt is ∙ ap (λ b. cond b (text ∷ rest) rest) (vacant text empty test so))
 
-pub none_left : (slots : List Slot) (i : ℕ) → length slots ≤ i → texts_in (drop i slots) ≡ []
-none_left slots i all = ap texts_in (drop_all i slots all)
+pub none_left : (slots : Seen) (i : ℕ) → length slots ≤ i → slot_texts (drop i slots) ≡ []
+none_left slots i all = ap slot_texts (drop_all i slots all)
 
 -- ---- the array
 
@@ -102,11 +97,11 @@ marked_one mark [] texts = refl
 marked_one mark (b ∷ bs) texts = refl
 
 -- one slot more
-pub next_text : (slots : List Slot) (i : ℕ) (slot : Slot) (bytes more : List ℕ) (mark next : ℕ) → i < length slots → slot ≡ get_or slots i slot → next ≡ next_mark mark (text_in slot)
-    → more ≡ bytes ++ behind mark (text_in slot) → more ++ marked next (texts_in (drop (i + 1) slots)) ≡ bytes ++ marked mark (texts_in (drop i slots))
-next_text slots i slot bytes more mark next lt here next_is more_is =
-    let rest = texts_in (drop (i + 1) slots) in
+pub next_text : (slots : Seen) (i : ℕ) (text bytes more : List ℕ) (mark next : ℕ) → i < length slots → text ≡ slot_text (slot_in i slots) → next ≡ next_mark mark text
+    → more ≡ bytes ++ behind mark text → more ++ marked next (slot_texts (drop (i + 1) slots)) ≡ bytes ++ marked mark (slot_texts (drop i slots))
+next_text slots i text bytes more mark next lt is next_is more_is =
+    let rest = slot_texts (drop (i + 1) slots) in
     ap (λ m. more ++ marked m rest) next_is
-    ∙ ap (λ s. s ++ marked (next_mark mark (text_in slot)) rest) more_is
-    ∙ append_assoc bytes (behind mark (text_in slot)) (marked (next_mark mark (text_in slot)) rest)
-    ∙ ap (λ s. bytes ++ s) (marked_one mark (text_in slot) (map slot_text (seen_slots (drop (i + 1) slots))) ∙ ap (λ left. marked mark (texts_in left)) (sym (drop_here slots i slot lt here)))
+    ∙ ap (λ s. s ++ marked (next_mark mark text) rest) more_is
+    ∙ append_assoc bytes (behind mark text) (marked (next_mark mark text) rest)
+    ∙ ap (λ s. bytes ++ s) (marked_one mark text (map slot_text (drop (i + 1) slots)) ∙ ap (λ left. marked mark left) (sym (drop_here slots i text lt is)))

@@ -1,3 +1,4 @@
+pub mod Batches
 pub mod Inner
 pub mod Lends
 pub mod Owed

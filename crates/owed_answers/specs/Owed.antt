@@ -2,11 +2,11 @@
 use Rattle.std.specs.Prelude.{ℕ, ◌+◌, Bool, true, false, List, [], ◌∷◌, ◌++◌, Option, Some, None, map, filter, slice_get, slice_set, count_by, if◌then◌else◌}
 use Rattle.std.specs.Option.{is_none, unwrap_or}
 use Rattle.message_ids.specs.declared.id.Id.TheVariants.{Null}
-use Rattle.message_ids.specs.declared.standard.Standard.TheVariants.{InvalidRequest}
+use Rattle.message_ids.specs.declared.standard.Standard.TheVariants.{InvalidRequest, ParseError}
 use Rattle.connection_messages.specs.Texts.{answer_text, batch_text}
 use Rattle.connection_messages.specs.declared.answer.Answer.TheVariants.{Standard}
 use Rattle.owed_answers.specs.declared.slot.Slot.{Slot}
-use Rattle.owed_answers.specs.declared.slot.Slot.TheVariants.{Lacking, Text, Invalid}
+use Rattle.owed_answers.specs.declared.slot.Slot.TheVariants.{Lacking, Invalid, Unreadable}
 
 -- Of one unit, a slot for each entry that may have an answer. The text stands there once it is given: an empty one where
 -- the entry has no answer after all.
@@ -27,14 +27,15 @@ opened unit s = record { places = s.places + 1; owed = s.owed ++ (s.places, unit
 abbrev pub invalid_text : List ℕ
 invalid_text = answer_text Null (Standard InvalidRequest)
 
--- a slot of a program, and all slots, as lists
+-- the answer to a content that is unreadable
+abbrev pub unreadable_text : List ℕ
+unreadable_text = answer_text Null (Standard ParseError)
+
+-- what a slot of a program holds at first
 abbrev pub seen_slot : Slot → Option (List ℕ)
 seen_slot Lacking = None
-seen_slot (Text text) = Some text.items
 seen_slot Invalid = Some invalid_text
-
-abbrev pub seen_slots : List Slot → List (Option (List ℕ))
-seen_slots slots = map seen_slot slots
+seen_slot Unreadable = Some unreadable_text
 
 abbrev pub lacking_slots : List (Option (List ℕ)) → ℕ
 lacking_slots slots = count_by is_none slots
@@ -50,14 +51,6 @@ given slot text unit = record unit { slots = slice_set unit.slots slot (Some tex
 -- what stands in this slot, where there is one
 abbrev pub slot_in : ℕ → List (Option (List ℕ)) → Option (List ℕ)
 slot_in slot slots = unwrap_or (slice_get slots slot) None
-
-abbrev pub slot_at : ℕ → Option OwedUnit → Option (List ℕ)
-slot_at slot None = None
-slot_at slot (Some unit) = slot_in slot unit.slots
-
--- this, or nothing, stands in the slot
-abbrev pub replaced : ℕ → Option (List ℕ) → OwedUnit → OwedUnit
-replaced slot text unit = record unit { slots = slice_set unit.slots slot text }
 
 -- ---- what is written
 
@@ -102,11 +95,3 @@ some_text (t ∷ ts) = true
 
 abbrev pub has_answer : OwedUnit → Bool
 has_answer unit = some_text (texts_of unit)
-
-abbrev pub has_answer_in : Option OwedUnit → Bool
-has_answer_in None = false
-has_answer_in (Some unit) = has_answer unit
-
-abbrev pub text_or_none : Option OwedUnit → List ℕ
-text_or_none None = []
-text_or_none (Some unit) = unit_text unit

@@ -3,11 +3,12 @@
 #![tactic(auto)]
 
 mod batch;
+mod held;
 mod owed;
 mod owed_answers;
 mod slot;
-mod slots;
 
+pub use batch::Batch;
 pub use owed::Owed;
 pub use owed_answers::OwedAnswers;
 pub use slot::Slot;

@@ -1,94 +1,123 @@
-ghost use Rattle.std.specs.Prelude.{◌≡◌, ◌++◌, ◌∷◌, [], true, false, IfOk, OnOk, OnErr, length};
-ghost use Rattle.std.specs.Io.{StartsWith};
-ghost use Rattle.connection_messages.specs.Texts.{batch_text};
-ghost use Rattle.owed_answers.specs.Inner.{behind, next_mark};
-ghost use Rattle.owed_answers.specs.Owed.{first_or_none, seen_slot, seen_slots, slot_text, slot_texts, some_text};
+ghost use Rattle.std.specs.Prelude.{◌≡◌, ◌==◌, ◌++◌, ◌∷◌, [], ℕ, List, true, false, IsTrue, IfOk, OnOk, OnErr};
 
 use crate::batch::Batch;
 use crate::slot::Slot;
-use crate::slots::Slots;
-use std::alloc::AllocError;
+use std::alloc::{AllocError, Global};
 use std::marker::Model;
 
-/// A unit whose answer isn't out: of each entry that has an answer its text, once it is given.
+/// A unit whose answer isn't out: of each entry that has an answer its text, once it is given. There are as many units as
+/// open calls, and most are no batch, so that what only a batch needs is boxed.
 #[derive(Drop)]
 pub struct Owed {
     slots: Slots,
 }
 
+#[derive(Drop)]
+pub(crate) enum Slots {
+    /// Of a unit that is no batch, as it came.
+    One(Slot),
+    /// The answer of a unit that is no batch, which was given, and can't go out yet.
+    Given(Box<Vec<u8>>),
+    Several(Box<Batch>),
+}
+
 impl Model for Owed {
-    ghost use Rattle.owed_answers.specs.Owed.{OwedUnit, seen_slots};
+    ghost use Rattle.owed_answers.specs.Owed.{OwedUnit};
 
     ghost Value = { OwedUnit };
 
-    ghost use Rattle.owed_answers.specs.Slots.{is_several, slots_of, IsCounted};
+    ghost use Rattle.owed_answers.specs.Slots.{unit_of};
 
-    ghost view = { λ a. record {
-      is_batch = is_several a.slots;
-      slots = seen_slots (slots_of a.slots);
-    } };
-
-    ghost invariant = { λ a. IsCounted a.slots };
+    ghost view = { λ a. unit_of a.slots };
 }
 
 impl Owed {
-    ghost use Rattle.owed_answers.specs.Owed.{lacking, slot_in, replaced, has_answer, unit_text};
+    ghost use Rattle.owed_answers.specs.Owed.{given, has_answer, lacking, seen_slot, unit_text};
 
-    pub fn batch(slots: Vec<Slot>) -> Owed
-        ensures { result ≡ record { is_batch = true; slots = seen_slots slots.items } }
+    /// A batch with these slots.
+    pub fn batch(alloc: Global, batch: Batch) -> Result<Owed, AllocError>
+        ensures { IfOk result (λ unit. unit ≡ record { is_batch = true; slots = batch }) }
     {
-        Owed {
-            slots: Slots::Several(Batch::new(slots)),
-        }
+        Ok(Owed {
+            slots: Slots::Several(Box::new(alloc, batch)?),
+        })
     }
 
     /// A unit that is no batch. Takes no memory.
     pub fn single(slot: Slot) -> Owed
-        ensures { result ≡ record { is_batch = false; slots = seen_slots (slot ∷ []) } }
+        ensures { result ≡ record { is_batch = false; slots = seen_slot slot ∷ [] } }
     {
         Owed {
             slots: Slots::One(slot),
         }
     }
 
-    /// Whether the unit is a batch, whose answer is one array.
-    pub fn is_batch(&self) -> bool
-        ensures { result ≡ self.now.is_batch }
-    {
-        self.slots.is_several()
-    }
-
-    /// How many slots there are.
-    pub fn len(&self) -> u64
-        ensures { result ≡ length self.now.slots }
-    {
-        self.slots.len() as u64
-    }
-
     /// How many slots have no text.
     pub fn lacking(&self) -> u64
         ensures { result ≡ lacking self.now }
     {
-        self.slots.lacking()
+        match &self.slots {
+            Slots::One(slot) => slot.is_lacking() as u64,
+            Slots::Given(_) => 0,
+            Slots::Several(batch) => batch.lacking(),
+        }
+    }
+
+    /// Whether no slot would lack its text, were this one given its.
+    pub fn is_complete_with(&self, slot: u64) -> bool
+        ensures { (text : List ℕ) → result ≡ (lacking (given slot text self.now) == 0) }
+    {
+        match &self.slots {
+            Slots::One(only) => slot == 0 || !only.is_lacking(),
+            Slots::Given(_) => true,
+            Slots::Several(batch) => batch.is_complete_with(slot as usize),
+        }
+    }
+
+    /// Whether the text that this slot is given is the answer of the unit, which is no batch.
+    pub fn is_alone(&self, slot: u64) -> bool
+        ensures { IsTrue result → (text : List ℕ) → unit_text (given slot text self.now) ≡ text }
+    {
+        slot == 0 && !matches!(&self.slots, Slots::Several(_))
+    }
+
+    /// Gives the slot this text. Where there is no such slot nothing changes.
+    pub fn give(&mut self, alloc: Global, slot: u64, text: &[u8]) -> Result<(), AllocError>
+        ensures ok { OnOk result (self.new ≡ given slot text.now self.old) }
+        ensures err { OnErr result (self.new ≡ self.old) }
+    {
+        if let Slots::Several(batch) = &mut self.slots {
+            return batch.give(slot as usize, text);
+        }
+        if slot == 0 {
+            let copy = copy_of(alloc, text)?;
+            self.slots = Slots::Given(Box::new(alloc, copy)?);
+        }
+        Ok(())
     }
 
     /// Whether there is something to write: a text that isn't empty.
     pub fn has_answer(&self) -> bool
         ensures { result ≡ has_answer self.now }
     {
-        some_answer(self.slots.as_slice())
+        match &self.slots {
+            Slots::One(slot) => !slot.text().is_empty(),
+            Slots::Given(text) => !text.is_empty(),
+            Slots::Several(batch) => batch.has_answer_with(batch.len(), &[]),
+        }
     }
 
-    /// Puts a text, or none, into this slot, and answers what stood there.
-    pub fn replace(&mut self, slot: u64, text: Slot) -> Slot
-        ensures was { seen_slot result ≡ slot_in slot self.old.slots }
-        ensures state { self.new ≡ replaced slot (seen_slot text) self.old }
+    /// Whether there would be something to write, were this slot given this text.
+    pub fn has_answer_with(&self, slot: u64, text: &[u8]) -> bool
+        ensures { result ≡ has_answer (given slot text.now self.now) }
     {
-        let slot = slot as usize;
-        if slot >= self.slots.len() {
-            return Slot::Lacking;
+        if let Slots::Several(batch) = &self.slots {
+            return batch.has_answer_with(slot as usize, text);
         }
-        self.slots.replace(slot, text)
+        if slot == 0 {
+            return !text.is_empty();
+        }
+        self.has_answer()
     }
 
     /// Puts the unit's answer behind these bytes, where there is something to write.
@@ -96,102 +125,39 @@ impl Owed {
         ensures ok { OnOk result (bytes.new.items ≡ bytes.old.items ++ unit_text self.now) }
         ensures err { OnErr result (bytes.new.items ≡ bytes.old.items) }
     {
-        let slots = self.slots.as_slice();
-        if !self.is_batch() {
-            put_first(bytes, slots)
-        } else if some_answer(slots) {
-            put_array(bytes, slots)
-        } else {
-            Ok(())
+        match &self.slots {
+            Slots::One(slot) => bytes.extend_from_slice(slot.text()),
+            Slots::Given(text) => bytes.extend_from_slice(text.as_slice()),
+            Slots::Several(batch) => batch.put_with(bytes, batch.len(), &[]),
         }
     }
-}
 
-/// Whether an answer stands in one of the slots.
-fn some_answer(slots: &[Slot]) -> bool
-    ensures { result ≡ some_text (slot_texts (seen_slots slots.now)) }
-{
-    for slot in slots {
-        if !slot.text().is_empty() {
-            return true;
+    /// Puts the answer that the unit would have behind these bytes, were this slot given this text.
+    pub fn put_text_with(
+        &self,
+        bytes: &mut Vec<u8>,
+        slot: u64,
+        text: &[u8],
+    ) -> Result<(), AllocError>
+        ensures ok { OnOk result (bytes.new.items ≡
+            bytes.old.items ++ unit_text (given slot text.now self.now)) }
+        ensures err { OnErr result (bytes.new.items ≡ bytes.old.items) }
+    {
+        if let Slots::Several(batch) = &self.slots {
+            return batch.put_with(bytes, slot as usize, text);
         }
-    }
-    false
-}
-
-/// Puts the first answer behind these bytes.
-fn put_first(bytes: &mut Vec<u8>, slots: &[Slot]) -> Result<(), AllocError>
-    ensures ok { OnOk result (bytes.new.items ≡
-        bytes.old.items ++ first_or_none (slot_texts (seen_slots slots.now))) }
-    ensures err { OnErr result (bytes.new.items ≡ bytes.old.items) }
-{
-    for slot in slots {
-        let text = slot.text();
-        if !text.is_empty() {
+        if slot == 0 {
             return bytes.extend_from_slice(text);
         }
+        self.put_text(bytes)
     }
-    Ok(())
 }
 
-/// Puts the answers behind these bytes as one array.
-fn put_array(bytes: &mut Vec<u8>, slots: &[Slot]) -> Result<(), AllocError>
-    requires { some_text (slot_texts (seen_slots slots.now)) ≡ true }
-    ensures ok { OnOk result (bytes.new.items ≡
-        bytes.old.items ++ batch_text (slot_texts (seen_slots slots.now))) }
-    ensures err { OnErr result (bytes.new.items ≡ bytes.old.items) }
+/// A text that waits has just the room that it needs.
+fn copy_of(alloc: Global, text: &[u8]) -> Result<Vec<u8>, AllocError>
+    ensures { IfOk result (λ copy. copy.items ≡ text.now) }
 {
-    let before = bytes.len();
-    match put_each(bytes, slots) {
-        Ok(()) => Ok(()),
-        Err(refused) => {
-            bytes.truncate(before);
-            Err(refused)
-        }
-    }
-}
-
-/// Where the answers can't be put whole, what was there still stands in front.
-fn put_each(bytes: &mut Vec<u8>, slots: &[Slot]) -> Result<(), AllocError>
-    requires { some_text (slot_texts (seen_slots slots.now)) ≡ true }
-    ensures ok { OnOk result (bytes.new.items ≡
-        bytes.old.items ++ batch_text (slot_texts (seen_slots slots.now))) }
-    ensures front { OnErr result (StartsWith bytes.new.items bytes.old.items) }
-{
-    bytes.reserve(array_len(slots))?;
-    let mut mark = b'[';
-    for slot in slots {
-        mark = put_slot(bytes, mark, slot)?;
-    }
-    bytes.extend_from_slice(b"]")
-}
-
-/// The length of the array, and one more for the LF of a line. Room for all of it at once is just that, where room that grows
-/// may be twice as large.
-fn array_len(slots: &[Slot]) -> usize {
-    let mut len: usize = 2;
-    for slot in slots {
-        let text_len = slot.text().len();
-        if text_len > 0 {
-            len = len.saturating_add(text_len).saturating_add(1);
-        }
-    }
-    len
-}
-
-/// Puts this mark and the answer in the slot behind these bytes, and gives the mark of the next one. Nothing is put where
-/// the slot has no answer.
-fn put_slot(bytes: &mut Vec<u8>, mark: u8, slot: &Slot) -> Result<u8, AllocError>
-    ensures next { IfOk result (λ next. next ≡ next_mark mark (slot_text (seen_slot slot.now))) }
-    ensures ok { OnOk result (bytes.new.items ≡
-        bytes.old.items ++ behind mark (slot_text (seen_slot slot.now))) }
-    ensures front { StartsWith bytes.new.items bytes.old.items }
-{
-    let text = slot.text();
-    if text.is_empty() {
-        return Ok(mark);
-    }
-    bytes.push(mark)?;
-    bytes.extend_from_slice(text)?;
-    Ok(b',')
+    let mut copy = Vec::with_capacity(alloc, text.len())?;
+    copy.extend_from_slice(text)?;
+    Ok(copy)
 }

@@ -1,9 +1,8 @@
-ghost use Rattle.std.specs.Prelude.{◌≡◌, ◌+◌, ◌-◌, ◌<◌, ◌^◌, ◌++◌, ◌∷◌, [], true, false, length, OnOk, OnErr, option_copied};
-ghost use Rattle.owed_answers.specs.Owed.{seen_slot, slot_at, replaced};
+ghost use Rattle.std.specs.Prelude.{◌≡◌, ◌+◌, ◌-◌, ◌<◌, ◌^◌, [], length, OnOk, OnErr, option_copied};
+ghost use Rattle.owed_answers.specs.Owed.{given};
 ghost use Rattle.number_windows.specs.Numbered.{at, without, changed_at, first_number, next_number, Ascending};
 
 use crate::owed::Owed;
-use crate::slot::Slot;
 use number_windows::NumberWindow;
 use std::alloc::{AllocError, Global};
 use std::marker::Model;
@@ -34,7 +33,7 @@ impl OwedAnswers {
     ghost use Rattle.std.specs.Borrow.{sem};
     ghost use Rattle.std.specs.Option.{option_copied_mut};
     ghost use Rattle.owed_answers.specs.Lends.{lends_unit};
-    ghost use Rattle.owed_answers.specs.Owed.{seen_slots, opened, has_answer_in, text_or_none};
+    ghost use Rattle.owed_answers.specs.Owed.{opened};
 
     pub fn new(alloc: Global) -> OwedAnswers
         ensures { result ≡ record { places = 0; owed = [] } }
@@ -60,17 +59,8 @@ impl OwedAnswers {
         self.places
     }
 
-    /// The unit at the next place is a batch, and is owed these answers.
-    pub fn open_batch(&mut self, slots: Vec<Slot>) -> Result<(), AllocError>
-        requires { self.old.places < 2 ^ 64 - 1 }
-        ensures ok { OnOk result (self.new ≡
-            opened (record { is_batch = true; slots = seen_slots slots.items }) self.old) }
-        ensures err { OnErr result (self.new ≡ self.old) }
-    {
-        self.open(Owed::batch(slots))
-    }
-
-    fn open(&mut self, unit: Owed) -> Result<(), AllocError>
+    /// The unit at the next place is owed its answers.
+    pub fn open(&mut self, unit: Owed) -> Result<(), AllocError>
         requires { self.old.places < 2 ^ 64 - 1 }
         ensures ok { OnOk result (self.new ≡ opened unit self.old) }
         ensures err { OnErr result (self.new ≡ self.old) }
@@ -79,16 +69,6 @@ impl OwedAnswers {
         self.owed.push(self.places, unit);
         self.places += 1;
         Ok(())
-    }
-
-    /// The unit at the next place is no batch, and is owed this answer.
-    pub fn open_single(&mut self, slot: Slot) -> Result<(), AllocError>
-        requires { self.old.places < 2 ^ 64 - 1 }
-        ensures ok { OnOk result (self.new ≡
-            opened (record { is_batch = false; slots = seen_slots (slot ∷ []) }) self.old) }
-        ensures err { OnErr result (self.new ≡ self.old) }
-    {
-        self.open(Owed::single(slot))
     }
 
     /// The unit at the next place is owed nothing.
@@ -112,18 +92,24 @@ impl OwedAnswers {
         self.places = place;
     }
 
-    /// Puts a text, or none, into this slot of the unit at this place, and answers what stood there. Where there is no such
-    /// slot nothing changes. Takes no memory. Places ascend, so no other unit has this one.
-    pub fn replace(&mut self, place: u64, slot: u64, text: Slot) -> Slot
-        ensures was { seen_slot result ≡ slot_at slot (at place self.old.owed) }
-        ensures state { self.new ≡ record self.old {
-          owed = changed_at place (replaced slot (seen_slot text)) self.old.owed;
-        } }
+    /// Gives this slot of the unit at this place its text. Where there is no such slot nothing changes. Places ascend, so no
+    /// other unit has this one.
+    pub fn give(
+        &mut self,
+        alloc: Global,
+        place: u64,
+        slot: u64,
+        text: &[u8],
+    ) -> Result<(), AllocError>
+        ensures ok { OnOk result (self.new ≡ record self.old {
+          owed = changed_at place (given slot text.now) self.old.owed;
+        }) }
+        ensures err { OnErr result (self.new ≡ self.old) }
         ensures ascending { Ascending self.old.owed }
     {
         match self.get_mut(place) {
-            Some(unit) => unit.replace(slot, text),
-            None => Slot::Lacking,
+            Some(unit) => unit.give(alloc, slot, text),
+            None => Ok(()),
         }
     }
 
@@ -142,28 +128,6 @@ impl OwedAnswers {
         ensures ascending { Ascending self.old.owed }
     {
         self.owed.get_mut(place)
-    }
-
-    /// Whether the unit at this place has something to write: an answer that isn't empty.
-    pub fn has_answer(&self, place: u64) -> bool
-        ensures { result ≡ has_answer_in (at place self.now.owed) }
-    {
-        match self.owed.get(place) {
-            Some(unit) => unit.has_answer(),
-            None => false,
-        }
-    }
-
-    /// Puts the answer of the unit at this place behind these bytes, where there is something to write.
-    pub fn put_text(&self, place: u64, bytes: &mut Vec<u8>) -> Result<(), AllocError>
-        ensures ok { OnOk result (bytes.new.items ≡
-            bytes.old.items ++ text_or_none (at place self.now.owed)) }
-        ensures err { OnErr result (bytes.new.items ≡ bytes.old.items) }
-    {
-        match self.owed.get(place) {
-            Some(unit) => unit.put_text(bytes),
-            None => Ok(()),
-        }
     }
 
     /// The unit at this place is owed nothing any more. Places ascend, so no other unit has this one.

@@ -2,6 +2,7 @@
 //! to a reader of tokens.
 
 ghost use Rattle.std.specs.Prelude.{◌≡◌, ◌-◌, IfOk, IfSome, IsTrue, false};
+ghost use Rattle.std.specs.Str.{bytes_eq};
 ghost use Rattle.json.specs.Print.{quoted};
 ghost use Rattle.json_texts.specs.Known.{IsKnown};
 ghost use Rattle.connection_messages.specs.Envelope.{HasBatch, cancels_by, GivesId, GivesParams, GivesVersion, GivesCall, GivesEntry, GivesReply, GivesCancel, GivesTarget};
@@ -14,6 +15,7 @@ use super::batch::{batch_within, has_too_many};
 use super::call::read_null_params;
 use super::envelope::Envelope;
 use super::number::unsigned;
+use super::rooms::Rooms;
 use super::unit::MOST_DEPTH_IN;
 use crate::call::Call;
 use crate::cancels::Cancels;
@@ -29,7 +31,7 @@ use std::alloc::{AllocError, Global};
 /// The unit of a content that is seen to be one compact call or result, or a batch of such. Where the value of one of
 /// its members is known, its end isn't looked for.
 pub(crate) fn read_compact(
-    alloc: Global,
+    rooms: &mut Rooms,
     rules: Rules,
     text: &str,
     known: Known,
@@ -38,27 +40,27 @@ pub(crate) fn read_compact(
     ensures { IfOk result (λ u. IfSome u (λ unit. unit ≡ unit_of rules false text.now)) }
 {
     match text.as_bytes().first() {
-        Some(b'[') => read_batch(alloc, rules, text),
-        _ => read_single(alloc, rules, text, known),
+        Some(b'[') => read_batch(rooms, rules, text),
+        _ => read_single(rooms, rules, text, known),
     }
 }
 
 /// The same of a content whose text isn't compact, once it is made so.
 pub(crate) fn read_compacted(
-    alloc: Global,
+    rooms: &mut Rooms,
     rules: Rules,
     text: &str,
 ) -> Result<Option<Unit>, AllocError>
     ensures { IfOk result (λ u. IfSome u (λ unit. unit ≡ unit_of rules false text.now)) }
 {
-    match compacted(alloc, text, MOST_DEPTH_IN)? {
-        Some(compact) => read_compact(alloc, rules, compact.text.as_str(), compact.longest),
+    match compacted(rooms.alloc, text, MOST_DEPTH_IN)? {
+        Some(compact) => read_compact(rooms, rules, compact.text.as_str(), compact.longest),
         None => Ok(None),
     }
 }
 
 fn read_single(
-    alloc: Global,
+    rooms: &mut Rooms,
     rules: Rules,
     text: &str,
     known: Known,
@@ -70,32 +72,36 @@ fn read_single(
     if !envelope.note_whole(text, known) {
         return Ok(None);
     }
-    match read_envelope(alloc, rules, &envelope)? {
+    match read_envelope(rooms, rules, &envelope)? {
         Some(entry) => Ok(Some(Unit::Single(entry))),
         None => Ok(None),
     }
 }
 
-fn read_batch(alloc: Global, rules: Rules, text: &str) -> Result<Option<Unit>, AllocError>
+fn read_batch(rooms: &mut Rooms, rules: Rules, text: &str) -> Result<Option<Unit>, AllocError>
     ensures { IfOk result (λ u. IfSome u (λ unit. unit ≡ unit_of rules false text.now)) }
 {
     if has_too_many(rules, text) {
         return Ok(Some(Unit::Single(Entry::Invalid)));
     }
-    match read_entries(alloc, rules, text)? {
+    match read_entries(rooms, rules, text)? {
         Some(entries) => Ok(Some(batch_within(rules, entries))),
         None => Ok(None),
     }
 }
 
-fn read_entries(alloc: Global, rules: Rules, text: &str) -> Result<Option<Vec<Entry>>, AllocError>
+fn read_entries(
+    rooms: &mut Rooms,
+    rules: Rules,
+    text: &str,
+) -> Result<Option<Vec<Entry>>, AllocError>
     ensures { IfOk result (λ e. IfSome e (λ entries. HasBatch rules text.now entries.items)) }
 {
     let bytes = text.as_bytes();
     if bytes.is_empty() || bytes[0] != b'[' {
         return Ok(None);
     }
-    let mut entries = Vec::new(alloc);
+    let mut entries = Vec::new(rooms.alloc);
     let mut at = 1;
     while at < bytes.len() {
         let mut envelope = Envelope::new();
@@ -103,7 +109,7 @@ fn read_entries(alloc: Global, rules: Rules, text: &str) -> Result<Option<Vec<En
             drop(entries);
             return Ok(None);
         };
-        let Some(entry) = read_envelope(alloc, rules, &envelope)? else {
+        let Some(entry) = read_envelope(rooms, rules, &envelope)? else {
             drop(entries);
             return Ok(None);
         };
@@ -130,7 +136,7 @@ fn read_entries(alloc: Global, rules: Rules, text: &str) -> Result<Option<Vec<En
 /// batch has it.
 #[inline(always)]
 fn read_envelope(
-    alloc: Global,
+    rooms: &mut Rooms,
     rules: Rules,
     envelope: &Envelope<'_>,
 ) -> Result<Option<Entry>, AllocError>
@@ -140,15 +146,15 @@ fn read_envelope(
         return Ok(None);
     }
     let Some(part) = envelope.method else {
-        return read_result(alloc, envelope);
+        return read_result(rooms, envelope);
     };
     let Some(method) = plain(part) else {
         return Ok(None);
     };
     if let Some(by) = cancels_by(rules.cancels, method) {
-        return read_cancel(alloc, by, envelope);
+        return read_cancel(rooms.alloc, by, envelope);
     }
-    match read_call(alloc, rules.null_params, envelope, method)? {
+    match read_call(rooms, rules.null_params, envelope, method)? {
         Some(call) => Ok(Some(Entry::Call(call))),
         None => Ok(None),
     }
@@ -207,13 +213,13 @@ fn has_version_2(envelope: &Envelope<'_>) -> bool
     ensures { IsTrue result → GivesVersion envelope.now }
 {
     match envelope.version {
-        Some(version) => version == "\"2.0\"",
+        Some(version) => is_word(version, b"\"2.0\""),
         None => false,
     }
 }
 
 fn read_call(
-    alloc: Global,
+    rooms: &mut Rooms,
     null_params: bool,
     envelope: &Envelope<'_>,
     method: &str,
@@ -221,22 +227,22 @@ fn read_call(
     ensures call { IfOk result (λ c. IfSome c (λ call. GivesCall null_params envelope.now method.now call)) }
     ensures method { IfOk result (λ c. IfSome c (λ call. call.method ≡ method.now)) }
 {
-    let Some(params) = read_params(alloc, null_params, envelope.params)? else {
+    let Some(params) = read_params(rooms, null_params, envelope.params)? else {
         return Ok(None);
     };
-    let Some(id) = read_id(alloc, envelope.id)? else {
+    let Some(id) = read_id(rooms.alloc, envelope.id)? else {
         drop(params);
         return Ok(None);
     };
     Ok(Some(Call {
         id,
-        method: Text::copy_of(alloc, method)?,
+        method: rooms.copy_name(method)?,
         params,
     }))
 }
 
 fn read_params(
-    alloc: Global,
+    rooms: &mut Rooms,
     null_params: bool,
     part: Option<&str>,
 ) -> Result<Option<Option<Text>>, AllocError>
@@ -246,10 +252,10 @@ fn read_params(
         return Ok(Some(None));
     };
     if is_structured(part) {
-        return Ok(Some(Some(Text::copy_of(alloc, part)?)));
+        return Ok(Some(Some(rooms.copy_text(part)?)));
     }
-    if part == "null" {
-        return Ok(Some(read_null_params(alloc, null_params)?));
+    if is_word(part, b"null") {
+        return Ok(Some(read_null_params(rooms.alloc, null_params)?));
     }
     Ok(None)
 }
@@ -269,7 +275,7 @@ fn read_id(alloc: Global, part: Option<&str>) -> Result<Option<Option<Id>>, Allo
     if let Some(number) = unsigned(part) {
         return Ok(Some(Some(Id::Unsigned(number))));
     }
-    if part == "null" {
+    if is_word(part, b"null") {
         return Ok(Some(Some(Id::Null)));
     }
     match plain(part) {
@@ -279,7 +285,7 @@ fn read_id(alloc: Global, part: Option<&str>) -> Result<Option<Option<Id>>, Allo
 }
 
 /// A result of a call of ours.
-fn read_result(alloc: Global, envelope: &Envelope<'_>) -> Result<Option<Entry>, AllocError>
+fn read_result(rooms: &mut Rooms, envelope: &Envelope<'_>) -> Result<Option<Entry>, AllocError>
     ensures { IfOk result (λ e. IfSome e (λ entry. (rules : Rules) → GivesReply rules envelope.now entry)) }
 {
     let (Some(id), Some(result), None) = (envelope.id, envelope.result, envelope.error) else {
@@ -291,7 +297,7 @@ fn read_result(alloc: Global, envelope: &Envelope<'_>) -> Result<Option<Entry>, 
     if key == 0 {
         return Ok(None);
     }
-    let reply = Reply::Result(Text::copy_of(alloc, result)?);
+    let reply = Reply::Result(rooms.copy_text(result)?);
     Ok(Some(Entry::Reply { key, reply }))
 }
 
@@ -308,4 +314,15 @@ fn plain(part: &str) -> Option<&str>
         return None;
     }
     Some(&part[1..last])
+}
+
+/// Whether the text is this word. Two arrays are compared in place, where two texts take a call.
+#[inline(always)]
+fn is_word<const N: usize>(text: &str, word: &[u8; N]) -> bool
+    ensures { result ≡ bytes_eq text.now word.now }
+{
+    match text.as_bytes().first_chunk::<N>() {
+        Some(first) => text.len() == N && *first == *word,
+        None => false,
+    }
 }

@@ -4,12 +4,12 @@ ghost use Rattle.std.specs.Prelude.{◌≡◌, ◌<◌, ◌≤◌, ◌+◌, ◌-
 ghost use Rattle.json_texts.specs.Known.{IsKnown};
 ghost use Rattle.json_texts.specs.Standing.{HasValue};
 ghost use Rattle.connection_messages.specs.Envelope.{HasEnvelope, HasEnvelopeAt, target_part};
-ghost use Rattle.connection_messages.specs.Named.{HasMember, begins, member_of, name_len, no_parts, with_part};
+ghost use Rattle.connection_messages.specs.Named.{HasMember, member_of, name_len, no_parts, with_part};
 ghost use Rattle.connection_messages.specs.declared.read.unit.TheConstants.{MOST_DEPTH_IN};
 
 use super::unit::MOST_DEPTH_IN;
 use crate::cancels::Cancels;
-use json_texts::{Known, name_end, value_end};
+use json_texts::{Known, begins, begins_short, name_end, value_end};
 
 /// The texts of the members that tell what an object is, and of those by which the params of a cancel name a request. Of
 /// members that stand twice it has the last.
@@ -134,25 +134,25 @@ impl Member {
         ensures member { result ≡ member_of text.now }
         ensures bound { IfSome (name_len result) (λ len. (3 ≤ len) × (len ≤ length text.now)) }
     {
-        if begins(text, b"\"jsonrpc\":") {
+        if begins(text, b"\"jsonrpc", b"\":") {
             return Member::Version;
         }
-        if begins(text, b"\"id\":") {
+        if begins_short(text, b"\"id\"", b":") {
             return Member::Id;
         }
-        if begins(text, b"\"method\":") {
+        if begins(text, b"\"method\"", b":") {
             return Member::Method;
         }
-        if begins(text, b"\"params\":") {
+        if begins(text, b"\"params\"", b":") {
             return Member::Params;
         }
-        if begins(text, b"\"result\":") {
+        if begins(text, b"\"result\"", b":") {
             return Member::Result;
         }
-        if begins(text, b"\"error\":") {
+        if begins(text, b"\"error\":", b"") {
             return Member::Error;
         }
-        if begins(text, b"\"requestId\":") {
+        if begins(text, b"\"request", b"Id\":") {
             return Member::Request;
         }
         Member::Other
@@ -201,17 +201,4 @@ fn name_at(text: &[u8], at: usize) -> Option<(Member, usize)>
         Some(len) => Some((member, at + len)),
         None => Some((member, name_end(text, at)?)),
     }
-}
-
-/// Whether the text begins with the name. Names differ in their first 4 bytes, which `==` compares first and in place; a
-/// `starts_with` of so many names would be a call for each.
-#[inline(always)]
-fn begins(text: &[u8], name: &[u8]) -> bool
-    ensures value { result ≡ begins text.now name.now }
-    ensures bound { IsTrue result → length name.now ≤ length text.now }
-{
-    if text.len() < name.len() {
-        return false;
-    }
-    name == &text[..name.len()]
 }

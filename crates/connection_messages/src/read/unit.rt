@@ -10,6 +10,7 @@ ghost use Rattle.connection_messages.specs.declared.read.unit.TheConstants.{MOST
 use super::batch::batch_within;
 use super::compact::{read_compact, read_compacted};
 use super::entry::{read_entries, read_entry};
+use super::rooms::Rooms;
 use crate::entry::Entry;
 use crate::rules::Rules;
 use crate::unit::Unit;
@@ -31,11 +32,12 @@ pub fn limit_of_depth_in_figures()
 /// contents are, and a connection that rests doesn't hold the room of a long one, which is at least as long as its text.
 const KEPT_ROOM: usize = 65_536;
 
-/// Reads one content after another, over the same room.
+/// Reads one content after another, over the same rooms.
 #[derive(Drop)]
 pub struct UnitReader {
     alloc: Global,
     rules: Rules,
+    rooms: Rooms,
     /// The room of the reader of tokens, where one is kept.
     scratch: Option<Box<Scratch>>,
 }
@@ -56,6 +58,7 @@ impl UnitReader {
         UnitReader {
             alloc,
             rules,
+            rooms: Rooms::new(alloc),
             scratch: None,
         }
     }
@@ -72,6 +75,14 @@ impl UnitReader {
         self.read_content(content)
     }
 
+    /// Keeps the rooms of a method and of a text that have gone, for those of contents to come: each where it is of at most 256
+    /// bytes, and at most 64 of each. What is in them has no meaning. Where there is no memory to keep one, it goes.
+    pub fn keep_rooms(&mut self, name: Vec<u8>, text: Vec<u8>)
+        ensures { self.new ≡ self.old }
+    {
+        self.rooms.keep(name, text);
+    }
+
     fn read_content(&mut self, content: &[u8]) -> Result<Unit, AllocError>
         ensures unit { IfOk result (λ u. u ≡ unit_of self.old false content.now) }
         ensures rules { self.new ≡ self.old }
@@ -79,10 +90,10 @@ impl UnitReader {
         let Some(text) = utf8_text(content) else {
             return Ok(Unit::Unreadable);
         };
-        if let Some(unit) = read_compact(self.alloc, self.rules, text, Known::NOTHING)? {
+        if let Some(unit) = read_compact(&mut self.rooms, self.rules, text, Known::NOTHING)? {
             return Ok(unit);
         }
-        match read_compacted(self.alloc, self.rules, text)? {
+        match read_compacted(&mut self.rooms, self.rules, text)? {
             Some(unit) => Ok(unit),
             None => self.read_tokens(text),
         }

@@ -1,14 +1,11 @@
-use Rattle.std.proofs.Common.{◌≡◌, true, false, cond, [], Some, length, length-append, is_some, sym, ap, subst, ◌∙◌, arith}
-use Rattle.std.specs.Option.{IfSome}
+use Rattle.std.proofs.Common.{◌≡◌, true, false, length-append, refl, sym, ap, ◌∙◌, arith}
 use Rattle.connection_history.specs.Counts.{capped}
 use Rattle.connection_history.specs.declared.order.Order.TheVariants.{AsCame}
 use Rattle.connection_steps.specs.Steps.{complete_front, incomplete_rest, is_complete}
-use Rattle.open_calls.specs.Numbered.{at, changed_at, next_number}
-use Rattle.owed_answers.specs.Owed.{given, replaced, seen_slot, slot_at, slot_in, unit_texts}
-use Rattle.connection_desk.specs.declared.giving.Filled.{Filled}
+use Rattle.open_calls.specs.Numbered.{changed_at, next_number}
+use Rattle.owed_answers.specs.Owed.{given, unit_texts}
 use Rattle.connection_desk.specs.Desks.{answer_count, answer_texts, with_texts}
-use Rattle.connection_desk.specs.Inner.{complete_text_in, rest_of}
-use Rattle.connection_desk.proofs.GivenSlots.{changed_back}
+use Rattle.connection_desk.specs.Inner.{rest_of}
 use Rattle.connection_desk.proofs.GivenTexts.{all_kept, given_to_none, front_waits, front_goes, written, written_back}
 use Rattle.connection_desk.proofs.OwedLists.{count_texts, more_texts, no_texts, on_err, since_texts}
 use Rattle.connection_desk.proofs.States.{owed_state as state_of}
@@ -32,126 +29,103 @@ returns-in_default-clause-count c =
 
 -- it is refused
 
-pub returns-in_err-filled-clause-owed_err : goal.returns-in_err-filled-clause-owed_err
-returns-in_err-filled-clause-owed_err c =
+pub returns-in_err-give-clause-owed_err : goal.returns-in_err-give-clause-owed_err
+returns-in_err-give-clause-owed_err c =
     let was = c.args.owed.now in
     on_err c.from_residual.result
-    (ap (state_of was.places) (written_back c.args.place c.in-Some.unit.now c.fill.new.unit was.owed c.get_mut.ensures.ascending (sym c.in-Some.ensures.unit) c.in_err-filled.ensures.unit_err))
+    (ap (state_of was.places) (written_back c.args.place c.in-Some.unit.now c.give.new.self was.owed c.get_mut.ensures.ascending (sym c.in-Some.ensures.unit) c.in_err-give.ensures.err))
+
+pub returns-in_err-count-clause-owed_err : goal.returns-in_err-count-clause-owed_err
+returns-in_err-count-clause-owed_err c =
+    let was = c.args.owed.now in
+    on_err c.from_residual-in_err-count.result
+    (ap (state_of was.places) (written_back c.args.place c.in-Some.unit.now c.in-Some.unit.now was.owed c.get_mut.ensures.ascending (sym c.in-Some.ensures.unit) refl))
 
 -- the unit isn't complete yet
 
-pub returns-in_default-2-clause-owed : goal.returns-in_default-2-clause-owed
-returns-in_default-2-clause-owed c =
+pub returns-then-not-is_complete_with-clause-owed :
+    goal.returns-then-not-is_complete_with-clause-owed
+returns-then-not-is_complete_with-clause-owed c =
     let was = c.args.owed.now in
     let f = given c.args.slot c.args.room.now.items in
-    let unit = c.in-Some.unit.now in
-    let place = c.args.place in
-    let there : at place was.owed ≡ Some unit = sym c.in-Some.ensures.unit in
-    let open_yet : is_complete (f unit) ≡ false = sym c.in_ok-filled.ensures.complete ∙ ap is_some c.in_default-2.is in
-    let none = front_waits c.an_entry_changes_or_goes.ensures.changed place f unit was.owed there c.requires.first open_yet in
-    ap (state_of was.places)
-    (written place f unit c.fill.new.unit was.owed c.get_mut.ensures.ascending there c.in_ok-filled.ensures.unit ∙ (all_kept AsCame (changed_at place f was.owed) none).rest_is)
+    let open_yet : is_complete (f c.in-Some.unit.now) ≡ false = sym (c.is_complete_with.ensures c.args.room.now.items) ∙ c.if-not-is_complete_with.true in
+    let put = written c.args.place f c.in-Some.unit.now c.give.new.self was.owed c.get_mut.ensures.ascending (sym c.in-Some.ensures.unit)
+    (c.in_ok-give.ensures.ok ∙ ap (λ t. given c.args.slot t c.in-Some.unit.now) c.as_slice.ensures.value) in
+    ap (state_of was.places) (put ∙ (all_kept AsCame (changed_at c.args.place f was.owed) (front_waits c.an_entry_changes_or_goes.ensures.changed c.args.place f c.in-Some.unit.now was.owed (sym c.in-Some.ensures.unit) c.requires.first open_yet)).rest_is)
 
-pub returns-in_default-2-clause-outbox : goal.returns-in_default-2-clause-outbox
-returns-in_default-2-clause-outbox c =
-    let owed = c.args.owed.now.owed in
-    let out = c.args.outbox.now in
+pub returns-then-not-is_complete_with-clause-outbox :
+    goal.returns-then-not-is_complete_with-clause-outbox
+returns-then-not-is_complete_with-clause-outbox c =
+    let was = c.args.owed.now in
     let f = given c.args.slot c.args.room.now.items in
-    let unit = c.in-Some.unit.now in
-    let open_yet : is_complete (f unit) ≡ false = sym c.in_ok-filled.ensures.complete ∙ ap is_some c.in_default-2.is in
-    let none = front_waits c.an_entry_changes_or_goes.ensures.changed c.args.place f unit owed (sym c.in-Some.ensures.unit) c.requires.first open_yet in
-    c.in_ok-filled.ensures.outbox
-    ∙ ap (λ b. with_texts (cond b (unit_texts (f unit)) []) out) open_yet
-    ∙ ap (λ ts. with_texts ts out) (all_kept AsCame (changed_at c.args.place f owed) none).texts_are
+    let open_yet : is_complete (f c.in-Some.unit.now) ≡ false = sym (c.is_complete_with.ensures c.args.room.now.items) ∙ c.if-not-is_complete_with.true in
+    sym (no_texts c.args.outbox.now) ∙ ap (λ ts. with_texts ts c.args.outbox.now) (all_kept AsCame (changed_at c.args.place f was.owed) (front_waits c.an_entry_changes_or_goes.ensures.changed c.args.place f c.in-Some.unit.now was.owed (sym c.in-Some.ensures.unit) c.requires.first open_yet)).texts_are
 
-pub returns-in_default-2-clause-count : goal.returns-in_default-2-clause-count
-returns-in_default-2-clause-count c =
-    let owed = c.args.owed.now.owed in
+pub returns-then-not-is_complete_with-clause-count :
+    goal.returns-then-not-is_complete_with-clause-count
+returns-then-not-is_complete_with-clause-count c =
+    let was = c.args.owed.now in
     let f = given c.args.slot c.args.room.now.items in
-    let unit = c.in-Some.unit.now in
-    let open_yet : is_complete (f unit) ≡ false = sym c.in_ok-filled.ensures.complete ∙ ap is_some c.in_default-2.is in
-    let none = front_waits c.an_entry_changes_or_goes.ensures.changed c.args.place f unit owed (sym c.in-Some.ensures.unit) c.requires.first open_yet in
-    omega (arith, (all_kept AsCame (changed_at c.args.place f owed) none).count)
+    let open_yet : is_complete (f c.in-Some.unit.now) ≡ false = sym (c.is_complete_with.ensures c.args.room.now.items) ∙ c.if-not-is_complete_with.true in
+    omega (arith, (all_kept AsCame (changed_at c.args.place f was.owed) (front_waits c.an_entry_changes_or_goes.ensures.changed c.args.place f c.in-Some.unit.now was.owed (sym c.in-Some.ensures.unit) c.requires.first open_yet)).count)
 
 -- it goes out, and those behind it do that can
 
 pub returns-in-Ok-clause-owed : goal.returns-in-Ok-clause-owed
 returns-in-Ok-clause-owed c =
     let was = c.args.owed.now in
-    let f = given c.args.slot c.args.room.now.items in
     let unit = c.in-Some.unit.now in
-    let place = c.args.place in
-    let order = c.get_mut.ensures.ascending in
-    let there : at place was.owed ≡ Some unit = sym c.in-Some.ensures.unit in
-    let whole : is_complete (f unit) ≡ true = sym c.in_ok-filled.ensures.complete ∙ ap is_some c.in-Some-2.is in
-    let now = changed_at place (λ _. c.fill.new.unit) was.owed in
-    let is : now ≡ changed_at place f was.owed = written place f unit c.fill.new.unit was.owed order there c.in_ok-filled.ensures.unit in
+    let f = given c.args.slot c.args.room.now.items in
+    let whole : is_complete (f unit) ≡ true = sym (c.is_complete_with.ensures c.args.room.now.items) ∙ c.if-not-is_complete_with.false in
+    let now = changed_at c.args.place (λ _. unit) was.owed in
+    let same : now ≡ was.owed = written_back c.args.place unit unit was.owed c.get_mut.ensures.ascending (sym c.in-Some.ensures.unit) refl in
     c.remove_in_front.ensures
     ∙ ap (state_of was.places)
     (c.in-Ok.ensures.stays
     ∙ ap (λ o. incomplete_rest (rest_of o now)) c.next.ensures
-    ∙ (front_goes c.numbers_above_one.ensures.at c.an_entry_changes_or_goes.ensures.changed place f unit was.owed order there c.requires.first whole now is).rest_is)
+    ∙ ap (λ es. incomplete_rest (rest_of (next_number c.args.place es) es)) same
+    ∙ (front_goes c.numbers_above_one.ensures.at c.an_entry_changes_or_goes.ensures.changed c.args.place f unit was.owed c.get_mut.ensures.ascending (sym c.in-Some.ensures.unit) c.requires.first whole).rest_is)
 
 pub returns-in-Ok-clause-outbox : goal.returns-in-Ok-clause-outbox
 returns-in-Ok-clause-outbox c =
-    let owed = c.args.owed.now.owed in
-    let out = c.args.outbox.now in
-    let f = given c.args.slot c.args.room.now.items in
+    let was = c.args.owed.now in
     let unit = c.in-Some.unit.now in
-    let place = c.args.place in
-    let order = c.get_mut.ensures.ascending in
-    let there : at place owed ≡ Some unit = sym c.in-Some.ensures.unit in
-    let whole : is_complete (f unit) ≡ true = sym c.in_ok-filled.ensures.complete ∙ ap is_some c.in-Some-2.is in
-    let now = changed_at place (λ _. c.fill.new.unit) owed in
-    let is : now ≡ changed_at place f owed = written place f unit c.fill.new.unit owed order there c.in_ok-filled.ensures.unit in
-    let more = answer_texts (complete_front (rest_of (next_number place now) now)) in
+    let f = given c.args.slot c.args.room.now.items in
+    let whole : is_complete (f unit) ≡ true = sym (c.is_complete_with.ensures c.args.room.now.items) ∙ c.if-not-is_complete_with.false in
+    let now = changed_at c.args.place (λ _. unit) was.owed in
+    let same : now ≡ was.owed = written_back c.args.place unit unit was.owed c.get_mut.ensures.ascending (sym c.in-Some.ensures.unit) refl in
+    let out = c.args.outbox.now in
+    let more = answer_texts (complete_front (rest_of (next_number c.args.place was.owed) was.owed)) in
     c.in-Ok.ensures.ok
-    ∙ ap (λ o. with_texts (answer_texts (complete_front (rest_of o now))) c.fill.new.outbox) c.next.ensures
-    ∙ ap (with_texts more) (c.in_ok-filled.ensures.outbox ∙ ap (λ b. with_texts (cond b (unit_texts (f unit)) []) out) whole)
+    ∙ ap (λ o. with_texts (answer_texts (complete_front (rest_of o now))) c.write_with.new.outbox) c.next.ensures
+    ∙ ap (λ es. with_texts (answer_texts (complete_front (rest_of (next_number c.args.place es) es))) c.write_with.new.outbox) same
+    ∙ ap (with_texts more) c.in_ok-count.ensures.ok
     ∙ more_texts (unit_texts (f unit)) more out
-    ∙ ap (λ ts. with_texts ts out)
-    (front_goes c.numbers_above_one.ensures.at c.an_entry_changes_or_goes.ensures.changed place f unit owed order there c.requires.first whole now is).texts_are
+    ∙ ap (λ ts. with_texts ts out) (front_goes c.numbers_above_one.ensures.at c.an_entry_changes_or_goes.ensures.changed c.args.place f unit was.owed c.get_mut.ensures.ascending (sym c.in-Some.ensures.unit) c.requires.first whole).texts_are
 
 pub returns-in-Ok-clause-count : goal.returns-in-Ok-clause-count
 returns-in-Ok-clause-count c =
-    let owed = c.args.owed.now.owed in
-    let f = given c.args.slot c.args.room.now.items in
+    let was = c.args.owed.now in
     let unit = c.in-Some.unit.now in
-    let place = c.args.place in
-    let order = c.get_mut.ensures.ascending in
-    let there : at place owed ≡ Some unit = sym c.in-Some.ensures.unit in
-    let whole : is_complete (f unit) ≡ true = sym c.in_ok-filled.ensures.complete ∙ ap is_some c.in-Some-2.is in
-    let now = changed_at place (λ _. c.fill.new.unit) owed in
-    let is : now ≡ changed_at place f owed = written place f unit c.fill.new.unit owed order there c.in_ok-filled.ensures.unit in
-    let own : c.in-Some-2.filled.count ≡ length (unit_texts (f unit)) =
-    subst (λ o. IfSome o (λ (x : Filled). x.count ≡ length (unit_texts (f unit)))) c.in-Some-2.is c.in_ok-filled.ensures.count in
-    let behind = complete_front (rest_of (next_number place now) now) in
+    let f = given c.args.slot c.args.room.now.items in
+    let whole : is_complete (f unit) ≡ true = sym (c.is_complete_with.ensures c.args.room.now.items) ∙ c.if-not-is_complete_with.false in
+    let now = changed_at c.args.place (λ _. unit) was.owed in
+    let same : now ≡ was.owed = written_back c.args.place unit unit was.owed c.get_mut.ensures.ascending (sym c.in-Some.ensures.unit) refl in
+    let behind = complete_front (rest_of (next_number c.args.place was.owed) was.owed) in
     let more : c.in-Ok.more ≡ capped (answer_count behind) =
-    c.in-Ok.ensures.count ∙ ap (λ o. capped (answer_count (complete_front (rest_of o now)))) c.next.ensures in
-    let all = (front_goes c.numbers_above_one.ensures.at c.an_entry_changes_or_goes.ensures.changed place f unit owed order there c.requires.first whole now is).count in
-    omega (arith, c.saturating_add.ensures, own, more, count_texts behind, length-append (unit_texts (f unit)) (answer_texts behind), all)
+    c.in-Ok.ensures.count
+    ∙ ap (λ o. capped (answer_count (complete_front (rest_of o now)))) c.next.ensures
+    ∙ ap (λ es. capped (answer_count (complete_front (rest_of (next_number c.args.place es) es)))) same in
+    omega (arith, c.saturating_add.ensures, c.in_ok-count.ensures.count, more, count_texts behind, length-append (unit_texts (f unit)) (answer_texts behind), (front_goes c.numbers_above_one.ensures.at c.an_entry_changes_or_goes.ensures.changed c.args.place f unit was.owed c.get_mut.ensures.ascending (sym c.in-Some.ensures.unit) c.requires.first whole).count)
 
 -- those behind it are refused
 
 pub back_to-requires : goal.back_to-requires
 back_to-requires c =
-    let f = given c.args.slot c.args.room.now.items in
-    let texts = complete_text_in (Some (f c.in-Some.unit.now)) in
-    since_texts texts c.mark-mark.result c.fill.new.outbox c.write_each.new.outbox (c.in_ok-filled.ensures.outbox ∙ ap (with_texts texts) (sym c.mark-mark.ensures)) c.in-Err.ensures.err
+    let texts = unit_texts (given c.args.slot c.args.room.now.items c.in-Some.unit.now) in
+    since_texts texts c.mark-mark.result c.write_with.new.outbox c.write_each.new.outbox (c.in_ok-count.ensures.ok ∙ ap (with_texts texts) (sym c.mark-mark.ensures)) c.in-Err.ensures.err
 
 pub returns-in-Err-clause-owed_err : goal.returns-in-Err-clause-owed_err
 returns-in-Err-clause-owed_err c =
-    let owed = c.args.owed.now in
-    let slot = c.args.slot in
-    let place = c.args.place in
-    let text = c.args.room.now.items in
-    let unit = c.in-Some.unit.now in
-    let order = c.get_mut.ensures.ascending in
-    let there : at place owed.owed ≡ Some unit = sym c.in-Some.ensures.unit in
-    let was = seen_slot c.in-Some-2.filled.was in
-    let stood : was ≡ slot_at slot (at place owed.owed) =
-    subst (λ o. IfSome o (λ (x : Filled). seen_slot x.was ≡ slot_in slot unit.slots)) c.in-Some-2.is c.in_ok-filled.ensures.was
-    ∙ ap (slot_at slot) (sym there) in
-    c.replace.ensures.state
-    ∙ ap (λ es. state_of owed.places (changed_at place (replaced slot was) es)) (written place (given slot text) unit c.fill.new.unit owed.owed order there c.in_ok-filled.ensures.unit)
-    ∙ ap (state_of owed.places) (changed_back place slot (Some text) was owed.owed order stood)
+    let was = c.args.owed.now in
+    ap (state_of was.places) (written_back c.args.place c.in-Some.unit.now c.in-Some.unit.now was.owed c.get_mut.ensures.ascending (sym c.in-Some.ensures.unit) refl)

@@ -1,40 +1,40 @@
-use Rattle.std.proofs.Common.{◌≡◌, ◌+◌, ◌++◌, [], length, ap, sym, ◌∙◌, arith}
-use Rattle.std.proofs.lemmas.Bool.{eqb-true}
-use Rattle.connection_steps.specs.States.{owed_slots}
-use Rattle.connection_steps.specs.Steps.{staying}
+use Rattle.std.proofs.Common.{◌+◌, ◌++◌, ◌∷◌, [], append-nil, ap, sym, ◌∙◌, arith}
+use Rattle.connection_steps.specs.Steps.{leaving, staying}
 use Rattle.connection_desk.specs.Desks.{answer_count, answer_texts, with_answers, with_texts}
-use Rattle.connection_desk.specs.Inner.{are_several, owed_in, slots_in}
+use Rattle.connection_desk.specs.Inner.{owed_in}
 use Rattle.connection_desk.proofs.Counting.{no_answers}
 use Rattle.connection_desk.proofs.OwedLists.{no_texts}
-use Rattle.connection_desk.proofs.Owing.{state_of, all-staying, empty_of, owed-none, lacking-stays}
+use Rattle.connection_desk.proofs.Owing.{state_of, all-staying, lacking-stays}
 use Rattle.connection_desk.proofs.intake.owe.Goals as goal
 
-pub returns-then-is_empty-clause-owed : goal.returns-then-is_empty-clause-owed
-returns-then-is_empty-clause-owed c =
-    let slots = c.args.slots in
-    let none : slots_in slots ≡ [] = empty_of (slots_in slots) (eqb-true (length (slots_in slots)) 0 (sym c.is_empty.ensures ∙ c.if-is_empty.true)) in
+pub returns-in_default-clause-owed : goal.returns-in_default-clause-owed
+returns-in_default-clause-owed c =
+    let was = c.args.owed.now in
     c.skip.ensures
-    ∙ ap (λ es. state_of (c.args.owed.now.places + 1) es)
-    (sym (owed-none c.args.order c.args.owed.now.places (are_several slots) c.args.owed.now.owed c.requires)
-    ∙ ap (λ ss. staying c.args.order (c.args.owed.now.owed ++ owed_slots c.args.owed.now.places (are_several slots) ss)) (sym none))
+    ∙ ap (λ es. state_of (was.places + 1) es)
+    (sym (all-staying c.args.order was.owed c.requires)
+    ∙ ap (λ es. staying c.args.order es) (sym (append-nil was.owed))
+    ∙ ap (λ due. staying c.args.order (was.owed ++ owed_in was.places due)) (sym c.in_default.is))
 
 pub returns-then-is_lacking-clause-owed : goal.returns-then-is_lacking-clause-owed
 returns-then-is_lacking-clause-owed c =
-    let slots = c.args.slots in
-    let place = c.args.owed.now.places in
-    let none = lacking-stays c.args.order place (are_several slots) (slots_in slots) c.args.owed.now.owed c.requires (c.is_lacking-is_lacking.ensures c.if-is_lacking.true) in
-    c.in_ok-open.ensures.ok ∙ ap (λ es. state_of (place + 1) es) (sym (all-staying c.args.order (c.args.owed.now.owed ++ owed_in place slots) none))
+    let was = c.args.owed.now in
+    let now = was.owed ++ (was.places, c.in-Some.unit) ∷ [] in
+    let none = lacking-stays c.args.order was.places c.in-Some.unit was.owed c.requires (omega (arith, c.lacking-is_lacking.ensures)) in
+    c.in_ok-open.ensures.ok
+    ∙ ap (λ es. state_of (was.places + 1) es) (sym (all-staying c.args.order now none))
+    ∙ ap (λ due. state_of (was.places + 1) (staying c.args.order (was.owed ++ owed_in was.places due))) (sym c.in-Some.is)
 
 pub returns-then-is_lacking-clause-outbox : goal.returns-then-is_lacking-clause-outbox
 returns-then-is_lacking-clause-outbox c =
-    let slots = c.args.slots in
-    let place = c.args.owed.now.places in
-    let none = lacking-stays c.args.order place (are_several slots) (slots_in slots) c.args.owed.now.owed c.requires (c.is_lacking-is_lacking.ensures c.if-is_lacking.true) in
-    sym (ap (λ es. with_texts (answer_texts es) c.args.outbox.now) none ∙ no_texts c.args.outbox.now)
+    let was = c.args.owed.now in
+    let none = lacking-stays c.args.order was.places c.in-Some.unit was.owed c.requires (omega (arith, c.lacking-is_lacking.ensures)) in
+    sym (ap (λ due. with_texts (answer_texts (leaving c.args.order (was.owed ++ owed_in was.places due))) c.args.outbox.now) c.in-Some.is
+    ∙ ap (λ es. with_texts (answer_texts es) c.args.outbox.now) none ∙ no_texts c.args.outbox.now)
 
 pub returns-then-is_lacking-clause-tally : goal.returns-then-is_lacking-clause-tally
 returns-then-is_lacking-clause-tally c =
-    let slots = c.args.slots in
-    let place = c.args.owed.now.places in
-    let none = lacking-stays c.args.order place (are_several slots) (slots_in slots) c.args.owed.now.owed c.requires (c.is_lacking-is_lacking.ensures c.if-is_lacking.true) in
-    sym (ap (λ es. with_answers (answer_count es) c.args.tally.now) none ∙ no_answers c.args.tally.now (omega arith))
+    let was = c.args.owed.now in
+    let none = lacking-stays c.args.order was.places c.in-Some.unit was.owed c.requires (omega (arith, c.lacking-is_lacking.ensures)) in
+    sym (ap (λ due. with_answers (answer_count (leaving c.args.order (was.owed ++ owed_in was.places due))) c.args.tally.now) c.in-Some.is
+    ∙ ap (λ es. with_answers (answer_count es) c.args.tally.now) none ∙ no_answers c.args.tally.now (omega arith))

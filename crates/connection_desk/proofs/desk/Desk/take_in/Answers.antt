@@ -1,24 +1,19 @@
-use Rattle.std.proofs.Common.{◌≡◌, ◌+◌, ◌++◌, [], suc, length, map, List, Bool, Option, option_to_list, append_assoc, ap, sym, subst, ◌∙◌, arith}
-use Rattle.connection_messages.specs.declared.cancels.Cancels.{Cancels}
-use Rattle.connection_history.specs.declared.event.Event.{Event}
+use Rattle.std.proofs.Common.{◌≡◌, ◌+◌, ◌++◌, [], suc, length, map, option_to_list, append_assoc, ap, sym, subst, ◌∙◌, arith}
 use Rattle.connection_history.specs.declared.event.Event.TheVariants as event
-use Rattle.connection_history.specs.declared.order.Order.{Order}
 use Rattle.connection_history.specs.Stream.{entries_in, calls_in}
 use Rattle.open_calls.specs.Numbered.{Below}
-use Rattle.open_calls.specs.Own.{OwnState}
 use Rattle.owed_answers.specs.Owed.{OwedState}
 use Rattle.open_calls.specs.Theirs.{TheirState}
 use Rattle.open_calls.specs.declared.their_call.TheirCall.{TheirCall}
 use Rattle.connection_desk.proofs.States.{their_state as state_of}
-use Rattle.outbox.specs.Output.{Output}
-use Rattle.connection_steps.specs.States.{State, is_batch, owed_slots}
+use Rattle.connection_steps.specs.States.{is_batch, owed_slots}
 use Rattle.connection_steps.specs.Steps.{leaving, staying, theirs_after_all, told_of_all, new_unit_slots, own_after_all}
-use Rattle.connection_desk.specs.Desks.{Desk, after_unit, with_texts, answer_count, answer_texts, with_answers, with_counts}
+use Rattle.connection_desk.specs.Desks.{after_unit, with_texts, answer_count, answer_texts, with_answers, with_counts}
 use Rattle.connection_steps.specs.Tallies.{tally_in}
-use Rattle.connection_desk.specs.declared.tally.Tally.{Tally}
-use Rattle.connection_desk.specs.Inner.{added_calls, calls_along, told_along, untold_of, counted_in, owed_in, slots_in}
+use Rattle.connection_desk.specs.Inner.{added_calls, calls_along, told_along, untold_of, counted_in, owed_in}
 use Rattle.connection_desk.proofs.Admitted.{below_of, theirs_along, told_same, unit_counted}
 use Rattle.connection_desk.proofs.Counting.{IsFew}
+use Rattle.connection_desk.proofs.DeskParts.{state, same-desk}
 use Rattle.connection_desk.proofs.Entries.{ArrivalLaws}
 use Rattle.connection_desk.proofs.Owing.{none-leaving}
 use Rattle.connection_desk.proofs.Owing.{state_of as owed_state}
@@ -30,43 +25,19 @@ pub settle-requires-clause-room : goal.settle-requires-clause-room
 settle-requires-clause-room c =
     let first : bool_byte c.is_some-first.result ≡ length (option_to_list c.args.broken) = broken_count c.args.broken c.is_some-first.result c.is_some-first.ensures in
     let most = told_most c.came-came.result c.self.inside.own c.admit.new.theirs.calls (entries_in c.args.unit) in
-    omega (arith, first, most, c.in_ok-slots.ensures.room, c.tell_broken.ensures.room)
+    omega (arith, first, most, c.in_ok-due.ensures.room, c.tell_broken.ensures.room)
 
 pub invariant_of-self-2 : goal.invariant_of-self-2
 invariant_of-self-2 c =
     let order = c.self.inside.order in
     let was = c.self.inside.owed in
-    let slots = c.in_ok-slots.slots in
-    let new = owed_in was.places slots in
+    let due = c.in_ok-due.due in
+    let new = owed_in was.places due in
     record {
       settled = subst (λ (s : OwedState). leaving order s.owed ≡ []) (sym c.in_default.ensures.owed) (none-leaving order (was.owed ++ new));
       open_ended = λ _. c.settle.ensures.open;
       kept = c.let_go.ensures;
     }
-
-abbrev state : OwnState → TheirState → OwedState → Bool → State
-state own theirs owed is_over = record { own = own; theirs = theirs; owed = owed; is_over = is_over }
-
-abbrev desk_of : Option Cancels → Order → Bool → OwnState → TheirState → OwedState → List Event → Output → Tally → Desk
-desk_of cancels order is_over own theirs owed untold out tally = record {
-  cancels = cancels;
-  order = order;
-  state = record { own = own; theirs = theirs; owed = owed; is_over = is_over };
-  untold = untold;
-  out = out;
-  tally = tally;
-}
-
-same-desk : (cancels : Option Cancels) (order : Order) (is_over : Bool) (own1 own2 : OwnState) (theirs1 theirs2 : TheirState) (owed1 owed2 : OwedState) (untold1 untold2 : List Event) (out1 out2 : Output) (tally1 tally2 : Tally)
-    → own1 ≡ own2 → theirs1 ≡ theirs2 → owed1 ≡ owed2 → untold1 ≡ untold2 → out1 ≡ out2 → tally1 ≡ tally2
-    → desk_of cancels order is_over own1 theirs1 owed1 untold1 out1 tally1 ≡ desk_of cancels order is_over own2 theirs2 owed2 untold2 out2 tally2
-same-desk cancels order is_over own1 own2 theirs1 theirs2 owed1 owed2 untold1 untold2 out1 out2 tally1 tally2 a b d e f g =
-    ap (λ x. desk_of cancels order is_over x theirs1 owed1 untold1 out1 tally1) a
-    ∙ ap (λ x. desk_of cancels order is_over own2 x owed1 untold1 out1 tally1) b
-    ∙ ap (λ x. desk_of cancels order is_over own2 theirs2 x untold1 out1 tally1) d
-    ∙ ap (λ x. desk_of cancels order is_over own2 theirs2 owed2 x out1 tally1) e
-    ∙ ap (λ x. desk_of cancels order is_over own2 theirs2 owed2 untold2 x tally1) f
-    ∙ ap (λ x. desk_of cancels order is_over own2 theirs2 owed2 untold2 out2 x) g
 
 pub returns-clause-ok : goal.returns-clause-ok
 returns-clause-ok c =
@@ -83,7 +54,7 @@ returns-clause-ok c =
     } in
     let under : Below (suc n) d.theirs.calls = below_of n d.theirs.calls c.came-came.ensures.numbers in
     let admitted : c.admit.new.theirs ≡ state_of (n + length (calls_in es)) (d.theirs.calls ++ added_calls d.owed.places 0 n es) =
-    c.in_ok-slots.ensures.ok.theirs
+    c.in_ok-due.ensures.ok.theirs
     ∙ ap (λ p. state_of (n + length (calls_in es)) (d.theirs.calls ++ added_calls p 0 n es)) c.places-place.ensures.places in
     let theirs : c.settle.new.theirs ≡ theirs_after_all d.owed.places 0 es d.theirs =
     c.settle.ensures.theirs
@@ -94,10 +65,11 @@ returns-clause-ok c =
     ap (λ (s : TheirState). told_along c.came-came.result d.own s.calls es) admitted
     ∙ ap (λ m. told_along m d.own (d.theirs.calls ++ added_calls d.owed.places 0 n es) es) c.came-came.ensures.came
     ∙ told_same laws d.owed.places n d.own d.theirs.calls es under in
-    let slots = c.in_ok-slots.slots in
-    let owing : d.owed.owed ++ owed_in d.owed.places slots ≡ d.owed.owed ++ owed_slots d.owed.places (is_batch unit) (new_unit_slots unit) =
-    ap (λ b. d.owed.owed ++ owed_slots d.owed.places b (slots_in slots)) c.in_ok-slots.ensures.ok.batch
-    ∙ ap (λ ss. d.owed.owed ++ owed_slots d.owed.places (is_batch unit) ss) c.in_ok-slots.ensures.ok.slots_are in
+    let due = c.in_ok-due.due in
+    let owing : d.owed.owed ++ owed_in d.owed.places due ≡ d.owed.owed ++ owed_slots d.owed.places (is_batch unit) (new_unit_slots unit) =
+    ap (λ p. d.owed.owed ++ owed_in p due) (sym c.places-place.ensures.places)
+    ∙ ap (λ es. d.owed.owed ++ es) c.in_ok-due.ensures.ok.owed
+    ∙ ap (λ p. d.owed.owed ++ owed_slots p (is_batch unit) (new_unit_slots unit)) c.places-place.ensures.places in
     let answers = answer_count (leaving d.order (d.owed.owed ++ owed_slots d.owed.places (is_batch unit) (new_unit_slots unit))) in
     let few : IsFew d.tally = record { requests = omega arith; invalid = omega arith; ignored = omega arith } in
     let counted : c.settle.new.tally ≡ with_counts (tally_in d.order unit (state d.own d.theirs d.owed d.is_over)) d.tally =

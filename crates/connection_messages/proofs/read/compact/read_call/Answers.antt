@@ -12,4 +12,4 @@ returns-clause-call c j numbers names version named =
     let identified : GivesId e.id c.in-Some-2.id = some_holds (GivesId e.id) c.in_ok-id.field-0 c.in-Some-2.id c.in-Some-2.is c.in_ok-id.ensures in
     call_is c.args.null_params j c.args.method.now c.in-Some.params c.in-Some-2.id version named (given (get (codes "params") j) (member_numbers (codes "params") j numbers) names.params)
     (identified (get (codes "id") j) (member_numbers (codes "id") j numbers) names.id)
-    ∙ ap (λ m. Some (record { id = c.in-Some-2.id; method = m; params = c.in-Some.params })) (sym c.in_ok-copy_of.ensures)
+    ∙ ap (λ m. Some (record { id = c.in-Some-2.id; method = m; params = c.in-Some.params })) (sym c.in_ok-copy_name.ensures)

@@ -9,9 +9,9 @@ pub returns-in-Some-unsigned : goal.returns-in-Some-unsigned
 returns-in-Some-unsigned c =
     number_gives c.args.part c.in-Some.part c.in-Some-unsigned.number c.in-Some.is (sym c.in-Some-unsigned.ensures)
 
-pub returns-then-eq : goal.returns-then-eq
-returns-then-eq c =
-    let same : c.in-Some.part.now ≡ codes "null" = (bytes_eq-Decides c.in-Some.part.now (codes "null")).0 (sym c.eq.ensures ∙ c.if-eq.true) in
+pub returns-then-is_word : goal.returns-then-is_word
+returns-then-is_word c =
+    let same : c.in-Some.part.now ≡ codes "null" = (bytes_eq-Decides c.in-Some.part.now (codes "null")).0 (sym c.is_word.ensures ∙ c.if-is_word.true) in
     null_gives c.args.part c.in-Some.part c.in-Some.is same
 
 pub returns-in_ok-copy_of-in-Some-plain : goal.returns-in_ok-copy_of-in-Some-plain

@@ -14,4 +14,4 @@ returns c rules j numbers names version no_method =
     let no_error = member_absent e.error (get (codes "error") j) parts.is-2 names.error in
     let positive : 0 < c.in-Some.key = omega (arith, c.if-key-eq0.false) in
     let key = key_is e.id parts.id c.in-Some.key j parts.is-0 (sym c.in-Some.ensures) positive numbers names.id in
-    ap (λ s. Reply c.in-Some.key (Result s)) (c.in_ok-copy_of.ensures ∙ sym result.2) ∙ result_entry_is rules j result.0 c.in-Some.key version no_method result.1 no_error key
+    ap (λ s. Reply c.in-Some.key (Result s)) (c.in_ok-copy_text.ensures ∙ sym result.2) ∙ result_entry_is rules j result.0 c.in-Some.key version no_method result.1 no_error key

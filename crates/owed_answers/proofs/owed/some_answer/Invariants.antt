@@ -1,7 +1,0 @@
-use Rattle.std.proofs.Common.{◌≡◌, drop}
-use Rattle.owed_answers.proofs.OwedTexts.{texts_in}
-use Rattle.owed_answers.proofs.owed.some_answer.Given as goal
-
--- no answer stands in the slots so far
-abbrev pub invariant-loop-slot : goal.invariant-loop-slot
-invariant-loop-slot l = texts_in (drop l.slot-index l.slots) ≡ texts_in l.slots
