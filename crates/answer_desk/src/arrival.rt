@@ -31,7 +31,7 @@ impl Arrival {
         ensures same { numbers.new ≡ numbers.old }
     {
         let number = numbers.next();
-        let mut calls = Vec::new(alloc);
+        let mut calls = Vec::with_capacity(alloc, places.len())?;
         let mut dues = Vec::with_capacity(alloc, places.len())?;
         let mut rest = VecDeque::from_vec(places);
         while let Some(place) = rest.pop_front() {

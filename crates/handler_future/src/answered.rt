@@ -15,7 +15,8 @@ use rpc_messages::Reply;
 use std::alloc::{AllocError, Global};
 
 /// What the method answers, where the step at the place adds and the next one answers the whole of its register. None
-/// where they are other steps.
+/// where they are other steps. It stands within what calls it, as a large answer is handed on.
+#[inline(always)]
 pub(crate) fn answered_sum(
     alloc: Global,
     steps: &[Step],

@@ -78,6 +78,8 @@ pub(crate) fn proceed(
     }
 }
 
+/// Does steps until the method ends or waits. It stands within what calls it, as a large answer is handed on.
+#[inline(always)]
 fn run(
     alloc: Global,
     steps: &[Step],

@@ -90,13 +90,15 @@ impl Kept {
     pub fn clear(&mut self)
         ensures { is_empty self.new ≡ true }
     {
-        let reply = Reply::Standard(Standard::NoReply);
-        drop(mem::replace(
-            self,
-            Kept::Answered {
+        match self {
+            Kept::Answered { id, reply } => {
+                *id = Id::Null;
+                *reply = Reply::Standard(Standard::NoReply);
+            }
+            Kept::Open(_) => *self = Kept::Answered {
                 id: Id::Null,
-                reply,
+                reply: Reply::Standard(Standard::NoReply),
             },
-        ));
+        }
     }
 }

@@ -81,6 +81,7 @@ impl Numbers {
     }
 
     /// A block for a call as it arrives: one that has served before, where there is one.
+    #[inline(always)]
     pub fn block(
         &mut self,
         alloc: Global,
@@ -126,6 +127,7 @@ impl Numbers {
 
     /// Puts the numbers into the index that aren't recent any more. Where there is no memory for that, the numbers from
     /// `before` on are taken back.
+    #[inline(always)]
     fn index_or_take_back(&mut self, before: u32) -> Result<(), AllocError>
         requires { (0 < before) × (before ≤ length self.old) }
         ensures ok { OnOk result (self.new ≡ self.old) }
@@ -242,6 +244,7 @@ impl Numbers {
     }
 
     /// Gives memory back that the numbers before have left.
+    #[inline(always)]
     pub fn shrink(&mut self)
         ensures { self.new ≡ self.old }
     {

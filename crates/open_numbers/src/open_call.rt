@@ -19,7 +19,9 @@ impl OpenCall {
     ghost use Rattle.open_numbers.specs.OpenCalls.{new_number};
     ghost use Rattle.open_numbers.specs.Requests.{id_unless};
 
-    /// A call as it arrives, with room for the replies to its turns 1 to `most`.
+    /// A call as it arrives, with room for the replies to its turns 1 to `most`. It stands within what calls it, since it
+    /// gives much back.
+    #[inline(always)]
     pub fn new(alloc: Global, id: Option<Id>, most: u32) -> Result<OpenCall, AllocError>
         ensures { IfOk result (λ number. number ≡ new_number id most) }
     {

@@ -18,6 +18,7 @@ use session_runs::{Runs, is_more_than};
 
 /// Takes the handler of a number out of the runs, where it is here, and tells how many of its messages are written. The
 /// number is out until it is put into another stage.
+#[inline(always)]
 pub(crate) fn take_idle(runs: &mut Runs, number: u32) -> Option<(Handler, usize)>
     ensures { MatchOption result
         ((runs.new ≡ runs.old) × (is_idle (stage_at runs.old number) ≡ false))
@@ -38,7 +39,9 @@ pub(crate) fn take_idle(runs: &mut Runs, number: u32) -> Option<(Handler, usize)
     }
 }
 
-/// Finishes a number, whose handler isn't among the runs, with an answer.
+/// Finishes a number, whose handler isn't among the runs, with an answer. It stands within what calls it, as a large answer
+/// is handed on.
+#[inline(always)]
 pub(crate) fn finish(runs: &mut Runs, handler: Handler, written: usize, answer: Reply)
     requires here { is_gone (stage_at runs.old handler.number) ≡ false }
     requires open { is_open runs.old.desk handler.number ≡ true }

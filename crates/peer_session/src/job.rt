@@ -35,7 +35,12 @@ impl Turns for Job {
     /// One poll.
     fn turn(&mut self) {
         let outcome = self.handler.advance();
-        drop(mem::replace(&mut self.outcome, outcome));
+        // (a job that goes out has no outcome yet, and then nothing is moved out)
+        if self.outcome.is_none() {
+            self.outcome = outcome;
+        } else {
+            drop(mem::replace(&mut self.outcome, outcome));
+        }
         self.polls = self.polls.saturating_add(1);
     }
 }

@@ -31,7 +31,6 @@ pub(crate) fn take_unit(
         return Err(error);
     }
     pass_unit(runs, first, unit);
-    runs.shrink();
     Ok(())
 }
 
@@ -47,6 +46,7 @@ fn pass_unit(runs: &mut Runs, first: u32, unit: Unit)
     }
 }
 
+/// Goes through a batch. It may leave much memory at once, which a single entry doesn't.
 fn pass_entries(runs: &mut Runs, first: u32, entries: Vec<Entry>)
     requires { first + numbers_in (map entry_seen entries.items) ≤ MOST_NUMBERS + 1 }
     ensures { PassesEntries runs.old first (map entry_seen entries.items) runs.new }
@@ -55,10 +55,12 @@ fn pass_entries(runs: &mut Runs, first: u32, entries: Vec<Entry>)
     for entry in entries {
         number = pass_entry(runs, number, entry);
     }
+    runs.shrink();
 }
 
 /// Goes through one entry, where the next call has this number, and gives the number that is next
 /// then.
+#[inline(always)]
 fn pass_entry(runs: &mut Runs, number: u32, entry: Entry) -> u32
     requires { number + numbers_of (entry_seen entry) ≤ MOST_NUMBERS + 1 }
     ensures next { result ≡ number + numbers_of (entry_seen entry) }
@@ -75,7 +77,7 @@ fn pass_entry(runs: &mut Runs, number: u32, entry: Entry) -> u32
             reply,
         } => {
             if of < number {
-                runs.put_reply(of, turn, reply);
+                runs.put_reply(of, turn, Box::into_inner(reply));
             } else {
                 drop(reply);
             }
@@ -87,6 +89,7 @@ fn pass_entry(runs: &mut Runs, number: u32, entry: Entry) -> u32
 
 /// A call is finished where it is at fault, and then, where it is a cancel, reaches the requests
 /// before it.
+#[inline(always)]
 fn pass_call(runs: &mut Runs, number: u32, call: &Call)
     ensures { Cancels (fault_passed runs.old number) number call.now.target runs.new }
 {

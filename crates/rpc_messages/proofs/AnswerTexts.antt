@@ -1,11 +1,11 @@
 -- A response's text, part by part, and that it is read back.
-use Rattle.std.proofs.Common.{◌≡◌, ℕ, ◌<◌, ◌≤◌, ◌^◌, ◌++◌, List, codes, false, Option, Some, None, option_map, Result, Ok, Err, OnOk, refl, ap, sym, subst, ◌∙◌, arith, append_assoc, decimal, ℤ, pos, negsuc, ◌||◌}
+use Rattle.std.proofs.Common.{◌≡◌, ℕ, ◌<◌, ◌≤◌, ◌^◌, ◌++◌, List, Bool, codes, false, Option, Some, None, option_map, Result, Ok, Err, OnOk, refl, ap, sym, subst, ◌∙◌, arith, append_assoc, decimal, ℤ, pos, negsuc, ◌||◌}
 use Rattle.std.specs.Fmt.{digits, signed_decimal}
 use Rattle.std.specs.Prelude.{option_and_then}
 use Rattle.json.specs.Print.{quoted}
 use Rattle.json.proofs.OnLiterals.{json_on_literals}
 use Rattle.serde_json.specs.Data.{Data, null, boolean, number, string, array, object, unsigned, negative, float, depth}
-use Rattle.serde_json.specs.Find.{as_number, as_u64, of_integer}
+use Rattle.serde_json.specs.Find.{as_bool, as_number, as_u64, of_integer}
 use Rattle.serde_json.specs.Read.{read, max_depth}
 use Rattle.serde_json.specs.Written.{compact_text, has_float}
 use Rattle.message_ids.specs.declared.standard.Standard.{Standard}
@@ -103,6 +103,17 @@ unsigned_text n = refl
 pub unsigned_is_read_back : (d : Data) (n : ℕ) → d ≡ number (unsigned n) → n < 2 ^ 64 → IsReadBack d
 unsigned_is_read_back d n is fits =
     subst (λ v. IsReadBack v) (sym is) (record { whole = refl; back = λ shallow. read-compact_text (number (unsigned n)) fits refl shallow })
+
+pub boolean_is : (d : Data) (b : Bool) → Some b ≡ as_bool d → d ≡ boolean b
+boolean_is null b e = cc
+boolean_is (boolean c) b e = let same : b ≡ c = cc in ap boolean (sym same)
+boolean_is (number n) b e = cc
+boolean_is (string s) b e = cc
+boolean_is (array ds) b e = cc
+boolean_is (object ms) b e = cc
+
+pub boolean_is_read_back : (d : Data) (b : Bool) → d ≡ boolean b → IsReadBack d
+boolean_is_read_back d b is = subst (λ v. IsReadBack v) (sym is) (record { whole = refl; back = λ shallow. read-compact_text (boolean b) tt refl shallow })
 
 -- ---- reading back
 

@@ -18,6 +18,10 @@ pub lex-params : (xs : List ℕ) → lex between (codes "\"params\":" ++ xs) ≡
 unfolding lex content
 lex-params xs = refl
 
+pub lex-result : (xs : List ℕ) → lex between (codes "\"result\":" ++ xs) ≡ token (string (codes "result")) ∷ colon ∷ lex between xs
+unfolding lex content
+lex-result xs = refl
+
 pub lex-id : (xs : List ℕ) → lex between (codes "\"id\":" ++ xs) ≡ token (string (codes "id")) ∷ colon ∷ lex between xs
 unfolding lex content
 lex-id xs = refl

@@ -10,7 +10,9 @@ use Rattle.message_ids.specs.declared.id.Id.{Id}
 use Rattle.rpc_messages.specs.Call.{call_from, call_id, call_params, call_with, cancelled_id, is_version_2}
 use Rattle.rpc_messages.specs.Entry.{SeenEntry, call, call_or_invalid, message_in}
 use Rattle.rpc_messages.specs.Envelope.{SeenEnvelope, envelope_of}
-use Rattle.rpc_messages.specs.Held.{at_name, with_member}
+use Rattle.rpc_messages.specs.Held.{with_member, is_params}
+use Rattle.rpc_messages.specs.declared.read.names.Name.{Name}
+use Rattle.rpc_messages.specs.declared.read.names.Name.TheVariants as names
 use Rattle.rpc_messages.specs.Outline.{outline_entry}
 use Rattle.rpc_messages.specs.Shown.{shown, shown_entry, shown_envelope, shown_value, stand_in, is_cancel_method}
 use Rattle.rpc_messages.specs.Unit.{single}
@@ -22,38 +24,16 @@ pub empty_shown : (w : Bool) → envelope_of no_members ≡ shown_envelope w (en
 empty_shown true = refl
 empty_shown false = refl
 
--- another name than that of params keeps what is under it, and that one has the stand-in
-apart : (k : List ℕ) (b : Bool) (d : Data) (p : Option Data) → bytes_eq k (codes "params") ≡ b
-    → at_name k (codes "params") (shown_value (not b) d) (option_map stand_in p) ≡ option_map stand_in (at_name k (codes "params") d p)
-apart k true d p is =
-    ap (λ b. cond b (Some (stand_in d)) (option_map stand_in p)) is ∙ sym (ap (λ b. option_map stand_in (cond b (Some d) p)) is)
-apart k false d p is =
-    ap (λ b. cond b (Some d) (option_map stand_in p)) is ∙ sym (ap (λ b. option_map stand_in (cond b (Some d) p)) is)
-
--- under another name the value doesn't matter
-elsewhere : (k q : List ℕ) (b : Bool) (d : Data) (old : Option Data) → bytes_eq k (codes "params") ≡ b → bytes_eq (codes "params") q ≡ false
-    → at_name k q (shown_value (not b) d) old ≡ at_name k q d old
-elsewhere k q false d old is other = refl
-elsewhere k q true d old is other =
-    let same : k ≡ codes "params" = (bytes_eq-Decides k (codes "params")).0 is in
-    let no : bytes_eq k q ≡ false = ap (λ name. bytes_eq name q) same ∙ other in
-    ap (λ b. cond b (Some (stand_in d)) old) no ∙ sym (ap (λ b. cond b (Some d) old) no)
-
-by_name : (k : List ℕ) (b : Bool) (d : Data) (e : SeenEnvelope) → bytes_eq k (codes "params") ≡ b
-    → with_member k (shown_value (not b) d) (shown_envelope false e) ≡ shown_envelope false (with_member k d e)
-by_name k b d e is = λ i. record {
-  version = elsewhere k (codes "jsonrpc") b d e.version is refl i;
-  method = elsewhere k (codes "method") b d e.method is refl i;
-  params = apart k b d e.params is i;
-  id = elsewhere k (codes "id") b d e.id is refl i;
-  result = elsewhere k (codes "result") b d e.result is refl i;
-  error = elsewhere k (codes "error") b d e.error is refl i;
-}
-
-pub member_shown : (w : Bool) (k : List ℕ) (d : Data) (e : SeenEnvelope)
-    → with_member k (shown_value (w || not (bytes_eq k (codes "params"))) d) (shown_envelope w e) ≡ shown_envelope w (with_member k d e)
-member_shown true k d e = refl
-member_shown false k d e = by_name k (bytes_eq k (codes "params")) d e refl
+-- under the name of params there is the stand-in
+pub member_shown : (w : Bool) (n : Name) (d : Data) (e : SeenEnvelope) → with_member n (shown_value (w || not (is_params n)) d) (shown_envelope w e) ≡ shown_envelope w (with_member n d e)
+member_shown true n d e = refl
+member_shown false names.Version d e = refl
+member_shown false names.Method d e = refl
+member_shown false names.Params d e = refl
+member_shown false names.Id d e = refl
+member_shown false names.Result d e = refl
+member_shown false names.Error d e = refl
+member_shown false names.Other d e = refl
 
 -- ---- messages
 

@@ -20,10 +20,10 @@ pub data SeenEntry : Type 0 where
   stray : SeenEntry
   invalid : SeenEntry
 
--- what an `Entry` holds, wherever its call lies in memory
+-- what an `Entry` holds, wherever its call or its reply lies in memory
 abbrev pub entry_seen : Entry → SeenEntry
 entry_seen (entry.Call c) = call (arc_value c)
-entry_seen (entry.Reply n t r) = reply n t r
+entry_seen (entry.Reply n t r) = reply n t r.value
 entry_seen entry.Stray = stray
 entry_seen entry.Invalid = invalid
 

@@ -1,7 +1,7 @@
 //! The texts of answers to requests of the other side.
 
 ghost use Rattle.std.specs.Prelude.{◌≡◌, ◌≤◌, ◌<◌, ◌++◌, Some, List, IfOk, OnOk, OnErr, decimal, length, map, option_map};
-ghost use Rattle.serde_json.specs.Data.{Data, depth, array};
+ghost use Rattle.serde_json.specs.Data.{Data, boolean, depth, array};
 ghost use Rattle.serde_json.specs.Read.{read, max_depth};
 ghost use Rattle.serde_json.specs.View.{items_of};
 ghost use Rattle.serde_json.specs.Written.{compact_text};
@@ -50,7 +50,7 @@ pub fn put_answer(
     }
 }
 
-/// Puts a response with that result. A whole number is put without memory for its text.
+/// Puts a response with that result. A whole number and a truth value are put without memory for their text.
 fn put_done(alloc: Global, bytes: &mut Vec<u8>, id: &Id, value: &Json) -> Result<(), AllocError>
     ensures text { OnOk result (bytes.new.items ≡
         bytes.old.items ++ result_text id.now (compact_text value.now)) }
@@ -61,8 +61,17 @@ fn put_done(alloc: Global, bytes: &mut Vec<u8>, id: &Id, value: &Json) -> Result
     if let Some(number) = value.as_value().as_u64() {
         return put_number(alloc, bytes, id, number);
     }
+    if let Some(truth) = value.as_value().as_bool() {
+        return write_result(alloc, bytes, id, truth_text(truth).as_bytes());
+    }
     let text = value.to_bytes(alloc)?;
     write_result(alloc, bytes, id, text.as_slice())
+}
+
+fn truth_text(truth: bool) -> &'static str
+    ensures { result.now ≡ compact_text (boolean truth) }
+{
+    if truth { "true" } else { "false" }
 }
 
 fn put_number(alloc: Global, bytes: &mut Vec<u8>, id: &Id, number: u64) -> Result<(), AllocError>

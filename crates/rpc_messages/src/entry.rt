@@ -10,11 +10,12 @@ use std::sync::Arc;
 pub enum Entry {
     /// A request or a notification, which the handler that answers it shares.
     Call(Arc<Call, Global>),
-    /// The reply to call `turn` of the handler of call entry `number`.
+    /// The reply to call `turn` of the handler of call entry `number`. It is in a block of its own, since it is large: an
+    /// entry is moved often, and is mostly a call.
     Reply {
         number: u32,
         turn: u32,
-        reply: Reply,
+        reply: Box<Reply>,
     },
     /// A reply whose id is the key of no call. It is ignored.
     Stray,

@@ -64,7 +64,8 @@ pub(crate) struct Incoming {
 }
 
 impl Incoming {
-    /// The call that takes this number.
+    /// The call that takes this number. It stands within what calls it, since it gives much back.
+    #[inline(always)]
     pub(crate) fn of_call(
         table: &Table,
         spare: &mut Spare,
@@ -96,6 +97,7 @@ impl Incoming {
 }
 
 /// The stage of a call whose method runs, before the first poll.
+#[inline(always)]
 fn idle(
     table: &Table,
     spare: &mut Spare,

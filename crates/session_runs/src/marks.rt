@@ -21,6 +21,7 @@ const ROOM: u32 = 64;
 const END: u32 = MOST_NUMBERS + 1;
 
 /// Puts a number in, or takes it out.
+#[inline(always)]
 pub(crate) fn set_mark(set: &mut NumberSet, number: u32, is_in: bool)
     requires { is_in ≡ true → HasRoom set.old number }
     ensures { set.new ≡ with_mark is_in number set.old }

@@ -174,7 +174,9 @@ impl Runs {
         Ok(())
     }
 
-    /// Puts a number into another stage, and gives the one that it was in.
+    /// Puts a number into another stage, and gives the one that it was in. It stands within what calls it, where the stage
+    /// tells at once that the number is neither ready nor has anything to write.
+    #[inline(always)]
     pub fn replace(&mut self, number: u32, stage: Stage) -> Stage
         requires here { is_gone (stage_at self.old number) ≡ false }
         requires fits { StageFits self.old.desk number stage }
@@ -189,6 +191,7 @@ impl Runs {
     }
 
     /// Keeps a handler that is over for a further call.
+    #[inline(always)]
     pub fn keep(&mut self, handler: Handler)
         ensures { self.new ≡ self.old }
     {
@@ -228,7 +231,9 @@ impl Runs {
         self.desk.is_marked(number)
     }
 
-    /// The end of an open number, whose handler isn't among the runs any more.
+    /// The end of an open number, whose handler isn't among the runs any more. It stands within what calls it, as a large
+    /// answer is handed on.
+    #[inline(always)]
     pub fn finish(&mut self, number: u32, answer: Reply)
         requires open { is_open self.old.desk number ≡ true }
         requires over { is_live (stage_at self.old number) ≡ false }
@@ -268,6 +273,7 @@ impl Runs {
     }
 
     /// Gives memory back that finished numbers have left.
+    #[inline(always)]
     pub fn shrink(&mut self)
         ensures { self.new ≡ self.old }
     {

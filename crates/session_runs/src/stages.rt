@@ -35,6 +35,7 @@ pub(crate) fn is_ready_at(desk: &Desk, stages: &DenseWindow<Stage>, number: u32)
 }
 
 /// Whether a number in this stage has its handler here, and ready.
+#[inline(always)]
 pub(crate) fn is_ready_stage(desk: &Desk, stage: &Stage) -> bool
     ensures { result ≡ is_ready_stage (desk_view desk.now) stage.now }
 {

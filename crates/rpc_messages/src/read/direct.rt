@@ -2,20 +2,19 @@
 //! to the reader of tokens. The params of a call that comes alone are passed without being made, where they aren't
 //! wanted.
 
-ghost use Rattle.std.specs.Prelude.{◌≡◌, ◌<◌, ◌≤◌, ◌∷◌, ◌||◌, ◌&&◌, [], not, length, map, codes, IfOk, OnOk};
-ghost use Rattle.std.specs.Str.{bytes_eq};
+ghost use Rattle.std.specs.Prelude.{◌≡◌, ◌<◌, ◌≤◌, ◌∷◌, ◌||◌, ◌&&◌, [], not, length, map, IfOk, OnOk};
 ghost use Rattle.json_reading.specs.Piece.{piece_view};
 ghost use Rattle.serde_json.specs.Data.{Data, Items as ItemsRead, Members, array, object, no_members};
 ghost use Rattle.serde_json.specs.Read.{max_depth, read as read_data};
 ghost use Rattle.rpc_messages.specs.Entry.{entry_seen, entry_of};
 ghost use Rattle.rpc_messages.specs.Envelope.{envelope_of};
-ghost use Rattle.rpc_messages.specs.Held.{envelope_view};
+ghost use Rattle.rpc_messages.specs.Held.{envelope_view, is_params};
 ghost use Rattle.rpc_messages.specs.Shown.{shown, shown_entry, shown_value, shown_envelope, is_cancel_method};
 ghost use Rattle.value_reading.specs.Lexed.{IsRead, ItemsAreRead, MembersAreRead};
 ghost use Rattle.rpc_messages.specs.Unit.{unit_seen, unit_of_reading, value_unit, batch_of, entries_of};
 
 use super::envelope::{Envelope, empty, is_for_cancel, keep};
-use super::names::read_name;
+use super::names::{Name, read_name};
 use super::{MOST_DEPTH_IN, take_message};
 use crate::entry::Entry;
 use crate::unit::Unit;
@@ -148,10 +147,10 @@ fn read_members<'a>(
 }
 
 /// Whether the value of a member is to be made.
-fn is_wanted(name: &str, with_params: bool) -> bool
-    ensures { result ≡ (with_params || not (bytes_eq name.now (codes "params"))) }
+fn is_wanted(name: Name, with_params: bool) -> bool
+    ensures { result ≡ (with_params || not (is_params name)) }
 {
-    with_params || name != "params"
+    with_params || !matches!(name, Name::Params)
 }
 
 /// Passes the value of a member, or an array or an object that isn't wanted, which gives null.

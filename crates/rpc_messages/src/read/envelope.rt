@@ -10,6 +10,7 @@ ghost use Rattle.rpc_messages.specs.Envelope.{envelope_of};
 ghost use Rattle.rpc_messages.specs.Held.{envelope_view, with_member};
 ghost use Rattle.rpc_messages.specs.Shown.{is_cancel_method};
 
+use super::names::Name;
 use json::Reader;
 use json_reading::{Piece, ReadFault, read_piece};
 use std::alloc::Global;
@@ -69,7 +70,7 @@ fn read_members<'a>(
 {
     'members: while let Some(name) = reader.next_key()? {
         let member = read_piece(alloc, reader, depth)?;
-        keep(envelope, name, member);
+        keep(envelope, Name::of(name), member);
     }
     Ok(())
 }
@@ -90,26 +91,31 @@ pub(super) fn empty<'a>() -> Envelope<'a>
 
 /// Keeps a member, where its name counts, in place of an earlier one of that name.
 #[inline(always)]
-pub(super) fn keep<'a>(envelope: &mut Envelope<'a>, name: &str, member: Piece<'a>)
+pub(super) fn keep<'a>(envelope: &mut Envelope<'a>, name: Name, member: Piece<'a>)
     ensures { envelope_view envelope.new
-        ≡ with_member name.now (piece_view member.entry) (envelope_view envelope.old) }
+        ≡ with_member name (piece_view member.entry) (envelope_view envelope.old) }
 {
     match name {
-        "jsonrpc" => put(&mut envelope.version, member),
-        "method" => put(&mut envelope.method, member),
-        "params" => put(&mut envelope.params, member),
-        "id" => put(&mut envelope.id, member),
-        "result" => put(&mut envelope.result, member),
-        "error" => put(&mut envelope.error, member),
-        _ => drop(member),
+        Name::Version => put(&mut envelope.version, member),
+        Name::Method => put(&mut envelope.method, member),
+        Name::Params => put(&mut envelope.params, member),
+        Name::Id => put(&mut envelope.id, member),
+        Name::Result => put(&mut envelope.result, member),
+        Name::Error => put(&mut envelope.error, member),
+        Name::Other => drop(member),
     }
 }
 
+/// Where there is nothing yet, as mostly, nothing is moved out.
 #[inline(always)]
 fn put<'a>(place: &mut Option<Piece<'a>>, member: Piece<'a>)
     ensures { place.new ≡ Some member.entry }
 {
-    drop(mem::replace(place, Some(member)));
+    if place.is_none() {
+        *place = Some(member);
+    } else {
+        drop(mem::replace(place, Some(member)));
+    }
 }
 
 /// Whether it has a cancel's method (LSP 3.17, "Cancellation Support").

@@ -28,10 +28,11 @@ pub(super) fn read_reply(alloc: Global, envelope: &mut Envelope<'_>) -> Result<E
     let Some((number, turn)) = key(envelope) else {
         return Ok(Entry::Stray);
     };
+    let reply = read_outcome(alloc, envelope)?;
     Ok(Entry::Reply {
         number,
         turn,
-        reply: read_outcome(alloc, envelope)?,
+        reply: Box::new(alloc, reply)?,
     })
 }
 

@@ -26,15 +26,18 @@ returns-then-branch-clause-members c =
     let mid = c.read_name.new.at in
     let stop = c.read_member.new.at in
     let end = c.is_over.new.at in
-    let k = c.in_ok-name.name.now in
+    let named_there = c.in_ok-name.ensures.name in
+    let k = named_there.0 in
+    let n = c.in_ok-name.name in
     let read = c.in_ok-member.ensures.piece in
     let d = read.0 in
     let found = l.invariant.1 in
     let over = c.in_ok-is_over.ensures in
     let brace : Lexed text stop (token tokens.end_object ∷ []) end = subst (λ b. Lexed text stop (operator_lexeme (cond b 125 44) ∷ []) end) c.if-branch.true over.byte in (
       put k d found,
-      members_over c.args.levels text k at l.at mid stop end d found c.in_ok-name.ensures.name read.1 over.ends brace l.invariant.2,
-      c.keep.ensures ∙ ap₂ (with_member k) (read.2 ∙ ap (λ b. shown_value b d) c.is_wanted-is_wanted.ensures) l.invariant.3 ∙ member_shown c.args.with_params k d (envelope_of found)
+      members_over c.args.levels text k at l.at mid stop end d found named_there.1 read.1 over.ends brace l.invariant.2,
+      c.keep.ensures ∙ ap₂ (with_member n) (read.2 ∙ ap (λ b. shown_value b d) c.is_wanted-is_wanted.ensures) l.invariant.3 ∙ member_shown c.args.with_params n d (envelope_of found)
+          ∙ ap (λ m. shown_envelope c.args.with_params (with_member m d (envelope_of found))) (sym named_there.2)
           ∙ ap (shown_envelope c.args.with_params) (sym (envelope_of-put k d found)),
     )
 
@@ -46,7 +49,9 @@ loop-at-preserved c =
     let mid = c.read_name.new.at in
     let stop = c.read_member.new.at in
     let next = c.is_over.new.at in
-    let k = c.in_ok-name.name.now in
+    let named_there = c.in_ok-name.ensures.name in
+    let k = named_there.0 in
+    let n = c.in_ok-name.name in
     let read = c.in_ok-member.ensures.piece in
     let d = read.0 in
     let found = l.invariant.1 in
@@ -61,7 +66,8 @@ loop-at-preserved c =
     let least = passed.0 in (
       omega (arith, before, less, lesser, least),
       put k d found,
-      member_behind c.args.levels text k at l.at mid stop next d found c.in_ok-name.ensures.name read.1 over.ends comma_there l.invariant.2,
-      c.keep.ensures ∙ ap₂ (with_member k) (read.2 ∙ ap (λ b. shown_value b d) c.is_wanted-is_wanted.ensures) l.invariant.3 ∙ member_shown c.args.with_params k d (envelope_of found)
+      member_behind c.args.levels text k at l.at mid stop next d found named_there.1 read.1 over.ends comma_there l.invariant.2,
+      c.keep.ensures ∙ ap₂ (with_member n) (read.2 ∙ ap (λ b. shown_value b d) c.is_wanted-is_wanted.ensures) l.invariant.3 ∙ member_shown c.args.with_params n d (envelope_of found)
+          ∙ ap (λ m. shown_envelope c.args.with_params (with_member m d (envelope_of found))) (sym named_there.2)
           ∙ ap (shown_envelope c.args.with_params) (sym (envelope_of-put k d found)),
     )

@@ -4,7 +4,7 @@ use Rattle.json.proofs.Grammar.{read_key-shorter}
 use Rattle.json_reading.specs.Piece.{piece_view}
 use Rattle.json_reading.proofs.Reading.{member_read, member_refused, key_refused, members_over}
 use Rattle.serde_json.specs.Data.{no_members, put}
-use Rattle.rpc_messages.specs.Held.{with_member}
+use Rattle.rpc_messages.specs.Held.{envelope_view, name_of, with_member}
 use Rattle.rpc_messages.proofs.Envelopes.{envelope_of-put}
 use Rattle.rpc_messages.proofs.read.envelope.read_members.Goals as goal
 
@@ -42,7 +42,7 @@ members-preserved c =
       put k d old,
       omega (arith, l.invariant.2),
       l.invariant.3 ∙ member_read p old n k l.reader s r d (omega (arith, l.invariant.2)) named done.ok,
-      c.keep.ensures ∙ ap (with_member k d) l.invariant.4 ∙ sym (envelope_of-put k d old),
+      c.keep.ensures ∙ ap (λ n. with_member n d (envelope_view l.envelope)) c.of.ensures ∙ ap (with_member (name_of k) d) l.invariant.4 ∙ sym (envelope_of-put k d old),
       omega (arith, l.invariant.5),
     )
 
