@@ -21,7 +21,7 @@ from support.callgrind import instructions
 COUNT, MOST_GROWTH = 10_000, 2.2
 # A request and its answer take at most so many instructions: a fortieth more than was measured (docs/performance.md). Each
 # has a bound of its own: one by the other would fail where a connection takes less.
-MOST_INSTRUCTIONS = {"connection": 5_129, "passed": 18_893}
+MOST_INSTRUCTIONS = {"connection": 4_193, "passed": 18_757}
 FEWEST_HELD, FEW_HELD, MANY_HELD = 1_000, 100_000, 200_000
 KINDS = tuple(f"{way}{ids}" for ids in ("", "-strings") for way in ("passed", "open", "reversed"))
 # Contents that can't be read, behind as many open requests.
